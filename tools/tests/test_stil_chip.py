@@ -82,8 +82,8 @@ class HeldPins(StilTest):
 
     def test_an_input_that_nothing_reads_has_to_be_held(self) -> None:
         files = self.in_reset()
-        self.refuse(main, "NET: nothing reads the input rst_n, so no test says what it has to be, as a reset of what was cut away: --hold rst_n=0, or 1",
-                    *files, *BROADSIDE)
+        self.refuse(main, "NET: nothing reads the inputs rst_n: no test says what such a one has to be, and it may be a reset of what was cut away "
+                    "(--hold PIN=VALUE)", *files, *BROADSIDE)
         self.call(main, *files, *BROADSIDE, "--hold", "rst_n=1")
         good = chip(self.circuit(files), ["q"], resets={"rst_n": 0})
         self.assertEqual(self.launches(self.played(good, 2)), [Launch("111", "101", 50, ())])

@@ -89,6 +89,7 @@ class ChipWords(NamedTuple):
     unscanned: Sequence[str]
 
 
+NAMES_TOLD = 20
 GROUPS = ("inputs", "outputs", "held", "scan_enables", "scan_ins", "scan_outs")
 
 
@@ -200,12 +201,13 @@ def forced_inputs(inputs: Sequence[Pin], held: Dict[str, int], enables: Sequence
 
 
 def refuse_unread(circuit: Circuit, inputs: Sequence[Pin], forced: Mapping[int, int], scan_ins: "set[str]") -> None:
-    """Refuses an input that tests give values by chance: nothing in NET reads it, and no word says what it should have."""
+    """Refuses inputs that tests give values by chance: nothing in NET reads them, and no word says what they should have."""
     read = {line for gate in circuit.gates for line in gate.pins}.union(circuit.observed, forced)
-    for pin in inputs:
-        if pin.line not in read and pin.name not in scan_ins:
-            raise Refused(f"NET: nothing reads the input {pin.name}, so no test says what it has to be, as a reset of what was cut away: "
-                          f"--hold {pin.name}=0, or 1")
+    unread = [pin.name for pin in inputs if pin.line not in read and pin.name not in scan_ins]
+    if unread:
+        names = " ".join(unread[:NAMES_TOLD]) + (f" and {len(unread) - NAMES_TOLD} more" if len(unread) > NAMES_TOLD else "")
+        raise Refused(f"NET: nothing reads the inputs {names}: no test says what such a one has to be, and it may be a reset of what was cut away "
+                      "(--hold PIN=VALUE)")
 
 
 def word_as_bytes(word: str) -> str:
