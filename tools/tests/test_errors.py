@@ -20,7 +20,8 @@ SCRIPTS = sorted(path.name for path in TOOLS.glob("pdfgen-*"))
 
 def ended(*words: str, **more: Any) -> Tuple[int, str]:
     """How a thin script ended, and what it said on err."""
-    done = subprocess.run([sys.executable, str(TOOLS / words[0]), *words[1:]], stderr=subprocess.PIPE, text=True, **more)
+    buffered = {name: value for name, value in os.environ.items() if name != "PYTHONUNBUFFERED"}  # what is printed stays till the end
+    done = subprocess.run([sys.executable, str(TOOLS / words[0]), *words[1:]], stderr=subprocess.PIPE, text=True, env=buffered, **more)
     return done.returncode, done.stderr
 
 
