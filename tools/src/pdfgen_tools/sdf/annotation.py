@@ -299,15 +299,16 @@ class Annotation:
             for at in range(len(gate.pins)):
                 pin = GatePin(number, at)
                 own = self.own_delays(pin, names.get(number, [""] * len(gate.pins)), pin in wire_pins)
-                wire = self.wires[pin].found if pin in self.wires else [ZERO, ZERO]
-                yield ToldDelay(pin, *(None if one is None or two is None else one + two for one, two in zip(own, wire)))
+                if pin in self.wires:
+                    own = [None if one is None or two is None else one + two for one, two in zip(own, self.wires[pin].found)]
+                yield ToldDelay(pin, *own)
 
     def own_delays(self, pin: GatePin, names: Sequence[str], is_wire: bool) -> List[Delay]:
         """The delays of a pin without the wire to it, by the transition of the line that it reads."""
         if pin in self.paths:
             sides = [name for at, name in enumerate(names) if at != pin.pin]
             kind = self.design.circuit.gates[pin.gate].kind
-            return [self.paths[pin].delay(kind, edge, names[pin.pin], sides) for edge in BOTH]
+            return self.paths[pin].delays(kind, names[pin.pin], sides)
         if pin in self.setups:
             return [self.setups[pin].time(edge) for edge in BOTH]
         return [ZERO, ZERO] if is_wire else [None, None]

@@ -7,7 +7,7 @@ from __future__ import annotations
 import decimal
 import itertools
 from decimal import Decimal
-from typing import ContextManager, Dict, Iterator, List, Mapping, Optional, Sequence, Set, Tuple
+from typing import ContextManager, Dict, Iterable, Iterator, List, Mapping, Optional, Sequence, Set, Tuple
 
 from pdfgen_tools.bench import INVERTING
 from pdfgen_tools.sdf.conditions import Condition
@@ -89,12 +89,18 @@ class PathDelays:
         """What the conditions read."""
         return {port for condition, _ in self.conditional.values() for port in condition.ports}
 
-    def delay(self, kind: str, edge: Edge, pin: str, sides: Sequence[str]) -> Delay:
-        """The longest that an edge of this pin takes to show at the output of a gate of this kind, over all values of its other pins at
-        which it does, and of the other ports that conditions read. None where one of them has no delay."""
-        outs = outs_of(kind, edge, len(sides))
-        if not self.conditional and self.otherwise is None:
-            return self.always[2 * edge + outs[0]] if len(outs) == 1 else longest(self.always[2 * edge + out] for out in outs)
+    def delays(self, kind: str, pin: str, sides: Sequence[str]) -> List[Delay]:
+        """How long a rise and a fall of this pin take to show at the output of a gate of this kind: the longest over all values of its other
+        pins at which they do, and of the other ports that conditions read. None where one of them has no delay."""
+        if self.conditional or self.otherwise:
+            return [self.conditional_delay(kind, edge, pin, sides) for edge in BOTH]
+        rise_rise, rise_fall, fall_rise, fall_fall = self.always
+        if kind in ("XOR", "XNOR") and sides:
+            return [longest((rise_rise, rise_fall)), longest((fall_rise, fall_fall))]
+        return [rise_fall, fall_rise] if kind in INVERTING else [rise_rise, fall_fall]
+
+    def conditional_delay(self, kind: str, edge: Edge, pin: str, sides: Sequence[str]) -> Delay:
+        """The same of one edge, where there are conditions."""
         others = sorted(self.ports() - {pin, *sides})
         return longest(self.delay_at(2 * edge + out, {pin: 1 - edge, **values, **dict(zip(others, other_values))})
                        for values, out in side_values(kind, edge, sides) for other_values in itertools.product((0, 1), repeat=len(others)))
@@ -104,7 +110,7 @@ class PathDelays:
         without a condition."""
         held = [table[at] for condition, table in self.conditional.values() if table[at] is not None and condition.holds(values)]
         if held:
-            return longest(iter(held))
+            return longest(held)
         return self.always[at] if self.otherwise is None or self.otherwise[at] is None else self.otherwise[at]
 
 
@@ -148,7 +154,7 @@ def sum_of(before: Delay, value: Decimal) -> Decimal:
     return before + value
 
 
-def longest(delays: Iterator[Delay]) -> Delay:
+def longest(delays: Iterable[Delay]) -> Delay:
     """The greatest of these, None where there are none, or where one isn't told."""
     most: Delay = None
     for delay in delays:
@@ -159,18 +165,11 @@ def longest(delays: Iterator[Delay]) -> Delay:
     return most
 
 
-def outs_of(kind: str, edge: Edge, sides: int) -> Sequence[Edge]:
-    """The edges of a gate's output that an edge of one pin may cause."""
-    if kind in ("XOR", "XNOR") and sides:
-        return BOTH
-    return (BOTH[1 - edge] if kind in INVERTING else edge,)
-
-
 def side_values(kind: str, edge: Edge, sides: Sequence[str]) -> Iterator[Tuple[Dict[str, int], Edge]]:
     """The values of the other pins at which an edge of a pin shows at the output, and the edge that it has there."""
     if kind not in ("XOR", "XNOR"):
         side = 1 if kind in ("AND", "NAND") else 0
-        yield dict.fromkeys(sides, side), outs_of(kind, edge, 0)[0]
+        yield dict.fromkeys(sides, side), BOTH[1 - edge] if kind in INVERTING else edge
         return
     for values in itertools.product((0, 1), repeat=len(sides)):
         turned = (sum(values) + (kind == "XNOR")) % 2
