@@ -1,10 +1,13 @@
 """The guide's part 'From a chip to a tester': every line of it is run, and prints what the guide shows."""
 from __future__ import annotations
 
+import os
+import pathlib
 import re
 import shutil
 import subprocess
-from typing import Iterator, Tuple
+import sys
+from typing import Dict, Iterator, Tuple
 
 from packages import EXAMPLES, PROGRAM, ROOT, TOOLS, ToolTest
 
@@ -18,6 +21,11 @@ def calls(text: str) -> Iterator[Tuple[str, str]]:
                 more, _, printed = printed[2:].partition("\n")
                 words += "\n" + more
             yield words, printed
+
+
+def with_this_python() -> Dict[str, str]:
+    """An environment in which the tools run under the Python of this test, which may be the one that has matplotlib."""
+    return {**os.environ, "PATH": f"{pathlib.Path(sys.executable).parent}{os.pathsep}{os.environ['PATH']}"}
 
 
 class Guide(ToolTest):
@@ -38,7 +46,7 @@ class Guide(ToolTest):
                     if not shutil.which("parallel"):
                         continue
                     shutil.rmtree(self.folder / "runs")  # else all stand already
-                ended = subprocess.run(["bash", "-c", words], cwd=self.folder, capture_output=True, text=True)
+                ended = subprocess.run(["bash", "-c", words], cwd=self.folder, capture_output=True, text=True, env=with_this_python())
                 self.assertEqual((ended.returncode, ended.stderr), (0, ""))
                 if printed:
                     self.assertEqual(ended.stdout, printed)
