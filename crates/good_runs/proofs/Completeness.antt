@@ -32,7 +32,7 @@ use Rattle.runs.specs.declared.run.Verdict.TheVariants.{Robust, Nonrobust, Untes
 use Rattle.trees.specs.declared.tree.Node.{Node}
 use Rattle.trees.specs.declared.tree.Node.TheVariants.{Closed, Waiting}
 use Rattle.trees.specs.Trees.{Cases, preorder}
-use Rattle.trees.specs.Trees.Cases.{closed, waiting, by_value, by_steadiness}
+use Rattle.trees.specs.Trees.Cases.{closed, waiting, split_at}
 use Rattle.runs.specs.Verdicts.{is_robust, is_untestable}
 use Rattle.trees.specs.Algebras.{algebra_of}
 use Rattle.trees.specs.Bounds.{AreSupport, states_of_source}
@@ -67,8 +67,7 @@ root_is_open c rules target budget nodes spent = by spent.cases spent.tree spent
     by closed tree below =
         let P : List Node → Type 0 = λ all. Contains all Waiting in absurd (none_waits (subst P tree spent.waits))
     by waiting tree below = below
-    by (by_value source first second) tree below = (below.0.hull, below.0.is_open)
-    by (by_steadiness source first second) tree below = (below.0.hull, below.0.is_open)
+    by (split_at split first second) tree below = (below.0.hull, below.0.is_open)
 
 -- a start that closes is refuted by a closed leaf alone
 closed_refutes : (c : Circuit) (rules : Rules) (target : Target) → ClosesAtNode (algebra_of rules) c rules target []

@@ -22,7 +22,7 @@ use Rattle.state_sets.specs.Narrowing.{IsNarrowing}
 use Rattle.state_sets.specs.Starts.{MayStart}
 use Rattle.state_sets.specs.Hulls.{Narrowing, Narrows, condition_at, IsNarrowingOf, IsAtRest, IsRestAmong, IsHull, IsEmptied, Closes, HasNoEmptySet}
 use Rattle.state_sets.specs.Hulls.Narrowing.{at_gate, along_link}
-use Rattle.state_laws.specs.declared.half.Half.{Half}
+use Rattle.state_laws.specs.declared.split.Half.{Half}
 use Rattle.state_laws.specs.Nodes.{MayBe, IsNodeHull, IsEmptiedAtNode, ClosesAtNode}
 use Rattle.state_laws.proofs.Sets.{none_has, no_state_at, has_in_circuit, same_states, label_within}
 use Rattle.state_laws.proofs.Steps.{rest_without_condition}

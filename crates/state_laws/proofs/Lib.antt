@@ -10,6 +10,7 @@ pub mod Restart
 pub mod Deciding
 pub mod Failing
 pub mod FanIns
+pub mod Halves
 pub mod Pairs
 pub mod Singletons
 pub mod SourceStates

@@ -26,13 +26,14 @@ use Rattle.state_sets.specs.StateAlgebra.{StateAlgebra, HasLaws}
 use Rattle.state_sets.specs.LineStates.{state_under}
 use Rattle.state_sets.specs.Labellings.{label_at}
 use Rattle.state_sets.specs.Narrowing.{AgreesAt, IsNarrowing, IsLinkNarrowing}
-use Rattle.state_sets.specs.Starts.{MayStart, IsInHalf, IsLaunching}
+use Rattle.state_sets.specs.Starts.{MayStart, IsLaunching}
 use Rattle.state_sets.specs.Hulls.{condition_at, IsNarrowingOf, IsHull, Closes, HasAt}
 use Rattle.state_laws.proofs.Narrowing.{keeps_agreeing}
 use Rattle.state_laws.proofs.Steps.{agreeing_kept_by_link}
 use Rattle.state_laws.proofs.Linked.{linked_source, linked_line}
 use Rattle.state_laws.proofs.PairStates.{pair_agrees, pair_agrees_at_step, line_may}
-use Rattle.state_laws.specs.declared.half.Half.{Half}
+use Rattle.state_laws.specs.declared.split.Half.{Half}
+use Rattle.state_laws.specs.Halves.{IsInHalf, LiesInHalf}
 use Rattle.state_laws.specs.Nodes.{MayBe, IsNodeHull, ClosesAtNode}
 use Rattle.state_laws.specs.Pairs.{HasPair, HasNoPair, KeepsPairs}
 use Rattle.state_laws.specs.Steadied.{KeepsRules}
@@ -103,13 +104,12 @@ module _ (a : StateAlgebra) (laws : HasLaws a) (c : Circuit) (circuit : IsCircui
   }
 
   -- and at a node of a tree of cases below halves in which they lie
-  module _ (halves : List Half)
-      (lie : All (λ half. IsInHalf a half.steadiness half.second (state_under a c pair half.source)) halves) where
+  module _ (halves : List Half) (lie : All (LiesInHalf a c pair) halves) where
     pub pair_may_be : (line : ℕ) → MayBe a c rules target halves line (state_under a c pair line)
     pair_may_be line = record {
       start = pair_may_start line;
       cut = λ k d inside here. let half = get_or halves k d in
-          subst (λ l. IsInHalf a half.steadiness half.second (state_under a c pair l)) (sym here) (lie k d inside);
+          subst (λ l. IsInHalf a half.split.kind half.second (state_under a c pair l)) (sym here) (lie k d inside);
     }
 
     -- the states of the pair lie in the node's hull

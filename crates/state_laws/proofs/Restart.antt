@@ -10,7 +10,7 @@ use Rattle.state_sets.specs.declared.state.State.{State}
 use Rattle.state_sets.specs.declared.state.StateSet.{StateSet}
 use Rattle.state_sets.specs.StateAlgebra.{StateAlgebra}
 use Rattle.state_sets.specs.Hulls.{Narrowing, IsNarrowingOf, IsHull, IsEmptied, HasAt}
-use Rattle.state_laws.specs.declared.half.Half.{Half}
+use Rattle.state_laws.specs.declared.split.Half.{Half}
 use Rattle.state_laws.specs.Nodes.{MayBe, IsCut, IsNodeHull, IsEmptiedAtNode}
 use Rattle.state_laws.proofs.Hulls.{Widens, Allows, widens_by_states, hull_of_same, emptied_if_wider}
 

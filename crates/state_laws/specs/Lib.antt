@@ -1,3 +1,4 @@
+pub mod Halves
 pub mod Nodes
 pub mod Sweeps
 pub mod Pairs

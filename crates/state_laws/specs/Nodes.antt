@@ -8,13 +8,14 @@ use Rattle.netlist.specs.Circuit.{Circuit}
 use Rattle.state_sets.specs.declared.state.State.{State}
 use Rattle.state_sets.specs.declared.state.StateSet.{StateSet}
 use Rattle.state_sets.specs.StateAlgebra.{StateAlgebra}
-use Rattle.state_sets.specs.Starts.{MayStart, IsInHalf}
+use Rattle.state_sets.specs.Starts.{MayStart}
 use Rattle.state_sets.specs.Hulls.{IsNarrowingOf, IsHull, IsEmptied, Closes}
-use Rattle.state_laws.specs.declared.half.Half.{Half}
+use Rattle.state_laws.specs.declared.split.Half.{Half}
+use Rattle.state_laws.specs.Halves.{IsInHalf}
 
 -- the state is in the half, if the half is one of this line
 abbrev pub IsCut : StateAlgebra → ℕ → State → Half → Type 0
-IsCut a line state half = line ≡ half.source → IsInHalf a half.steadiness half.second state
+IsCut a line state half = line ≡ half.split.line.0 → IsInHalf a half.split.kind half.second state
 
 -- what a line may be in at a node below these halves, where a target is looked for under these rules
 pub record MayBe (a : StateAlgebra) (c : Circuit) (rules : Rules) (target : Target) (halves : List Half) (line : ℕ) (state : State) : Type 0 where

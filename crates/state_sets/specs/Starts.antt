@@ -1,6 +1,6 @@
 -- What lines may be in at the start of a search for a pair: a transition is launched at the path's source, and the rules say how the
 -- other sources may start (this project's own).
-use Rattle.std.specs.Prelude.{◌≡◌, ◌≢◌, ⊤, ℕ, ◌<◌, ◌≤◌, Bool, true, false, not}
+use Rattle.std.specs.Prelude.{◌≡◌, ◌≢◌, ⊤, ℕ, ◌<◌, ◌≤◌, Bool, true, false}
 use Rattle.pd_base.specs.declared.fault.Direction.{Direction}
 use Rattle.pd_base.specs.declared.rules.Rules.{Rules}
 use Rattle.pd_base.specs.declared.rules.Rules.TheVariants.{One, Two, Linked}
@@ -29,11 +29,6 @@ pub record MayStart (a : StateAlgebra) (c : Circuit) (rules : Rules) (source : �
   pub is_source : line < source_count c → Has a.count a.sources state
   pub own : line ≡ source → IsLaunching a direction state
   pub other : line < source_count c → line ≢ source → IsOtherStart a rules state
-
--- one of two parts of the states of a source, by its last value or by its steadiness: last value 0, or steady, is the first part
-abbrev pub IsInHalf : StateAlgebra → Bool → Bool → State → Type 0
-IsInHalf a true second state = a.steady state ≡ not second
-IsInHalf a false second state = a.last state ≡ second
 
 -- the state is that of the least number in the set
 pub record IsLeast (count : ℕ) (set : StateSet) (state : State) : Type 0 where

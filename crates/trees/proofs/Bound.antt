@@ -14,12 +14,16 @@ use Rattle.netlist.specs.LinkedPairs.IsSupported.{in_fan_in}
 use Rattle.state_sets.specs.declared.state.StateSet.{StateSet}
 use Rattle.state_sets.specs.Labellings.{label_at}
 use Rattle.state_sets.specs.Starts.{IsLaunching}
-use Rattle.state_laws.specs.declared.half.Half.{Half}
+use Rattle.state_laws.specs.declared.split.SplitKind.{SplitKind}
+use Rattle.state_laws.specs.declared.split.SplitKind.TheVariants.{LastValue, Steadiness, FirstValue}
+use Rattle.state_laws.specs.declared.split.Split.{Split as CaseSplit}
+use Rattle.state_laws.specs.declared.split.Half.{Half}
+use Rattle.state_laws.specs.Halves.{half_of}
 use Rattle.state_laws.specs.Nodes.{MayBe}
 use Rattle.trees.specs.declared.tree.Node.{Node}
-use Rattle.trees.specs.declared.tree.Node.TheVariants.{Value, Steadiness}
-use Rattle.trees.specs.Trees.{Cases, preorder, is_split, split_count}
-use Rattle.trees.specs.Trees.Cases.{closed, waiting, by_value, by_steadiness}
+use Rattle.trees.specs.declared.tree.Node.TheVariants.{Split}
+use Rattle.trees.specs.Trees.{Cases, preorder, is_split, split_count, IsSourceKind}
+use Rattle.trees.specs.Trees.Cases.{closed, waiting, split_at}
 use Rattle.state_laws.proofs.FanIns.{leads_in_fan_in}
 use Rattle.trees.specs.Algebras.{algebra_of}
 use Rattle.trees.specs.Refutations.{below}
@@ -39,8 +43,7 @@ own_in_support c rules path prefix = record {
 abbrev pub leaf_count : Cases → ℕ
 leaf_count closed = 1
 leaf_count waiting = 1
-leaf_count (by_value source first second) = leaf_count first + leaf_count second
-leaf_count (by_steadiness source first second) = leaf_count first + leaf_count second
+leaf_count (split_at split first second) = leaf_count first + leaf_count second
 
 -- the splits of nodes behind one another
 pub splits_append : (xs ys : List Node) → split_count (xs ++ ys) ≡ split_count xs + split_count ys
@@ -50,13 +53,9 @@ splits_append xs ys = sum_by-append (λ node. cond (is_split node) 1 0) xs ys
 pub leaves_and_splits : (cases : Cases) → leaf_count cases ≡ split_count (preorder cases) + 1
 leaves_and_splits closed = refl
 leaves_and_splits waiting = refl
-leaves_and_splits (by_value source first second) =
-    let one : split_count (preorder (by_value source first second)) ≡ 1 + split_count (preorder first ++ preorder second) =
-    splits_append (Value source ∷ []) (preorder first ++ preorder second) in
-    omega (arith, splits_append (preorder first) (preorder second), leaves_and_splits first, leaves_and_splits second)
-leaves_and_splits (by_steadiness source first second) =
-    let one : split_count (preorder (by_steadiness source first second)) ≡ 1 + split_count (preorder first ++ preorder second) =
-    splits_append (Steadiness source ∷ []) (preorder first ++ preorder second) in
+leaves_and_splits (split_at split first second) =
+    let one : split_count (preorder (split_at split first second)) ≡ 1 + split_count (preorder first ++ preorder second) =
+    splits_append (Split split ∷ []) (preorder first ++ preorder second) in
     omega (arith, splits_append (preorder first) (preorder second), leaves_and_splits first, leaves_and_splits second)
 
 module _ (c : Circuit) (rules : Rules) (target : Target) where
@@ -65,38 +64,44 @@ module _ (c : Circuit) (rules : Rules) (target : Target) where
   weight_of halves source = cond (source == target.path.source.0) 1 (states_left rules halves source)
 
   -- a state in the hull of a half, at a node that is open, is left in that half
-  half_left : (halves : List Half) (hull : List StateSet) (steadiness : Bool) (source : ℕ) (second : Bool)
-      → source < source_count c → source ≢ target.path.source.0 → IsOpen c rules target halves hull → HasInHalf (algebra_of rules) (label_at hull source) steadiness second
-      → 1 ≤ states_left rules (below halves steadiness source second) source
-  half_left halves hull steadiness source second within apart open_here has =
+  half_left : (halves : List Half) (hull : List StateSet) (split : CaseSplit) (second : Bool)
+      → split.line.0 < source_count c → split.line.0 ≢ target.path.source.0 → IsOpen c rules target halves hull
+      → HasInHalf (algebra_of rules) (label_at hull split.line.0) split.kind second
+      → 1 ≤ states_left rules (below halves split second) split.line.0
+  half_left halves hull split second within apart open_here has =
       let a = algebra_of rules in
+      let source = split.line.0 in
       let may : MayBe a c rules target halves source has.0 =
       open_here.is_hull.rest.among source has.0 has.1 in
       let steady = a.steady has.0 in
       let last = a.last has.0 in
-      let in_it : in_half steadiness second steady last ≡ true = in_half_passes a has.0 steadiness second has.2 in
+      let in_it : in_half split.kind second steady last ≡ true = in_half_passes a has.0 split.kind second has.2 in
       let left : leaves_all rules halves source steady last ≡ true =
       cut_passes a has.0 rules halves source (may.start.other within apart) may.cut in
-      counted (leaves_all rules (below halves steadiness source second) source) steady last
-      (leaves_more rules halves (record { source = source; steadiness = steadiness; second = second }) source steady last
-      ∙ both (leaves_all rules halves source steady last) (source == source) (in_half steadiness second steady last) left in_it)
+      counted (leaves_all rules (below halves split second) source) steady last
+      (leaves_more rules halves (half_of split second) source steady last
+      ∙ both (leaves_all rules halves source steady last) (source == source) (in_half split.kind second steady last) left in_it)
     where
       both : (a b d : Bool) → a ≡ true → d ≡ true → (a && cond b d true) ≡ true
       both a true d is_a is_d = cc
       both a false d is_a is_d = cc
 
   -- a due split is not on the path's own source, which has one state
-  due_other : (halves : List Half) (steadiness : Bool) (source : ℕ) → IsDue c rules target halves steadiness source
-      → source ≢ target.path.source.0
-  due_other halves steadiness source due own =
-      by steadiness due.in_first due.in_second
+  due_other : (halves : List Half) (split : CaseSplit) → IsDue c rules target halves split → split.line.0 ≢ target.path.source.0
+  due_other halves split due own =
+      by split.kind due.kind due.in_first due.in_second
     where
-      by : (st : Bool) → HasInHalf (algebra_of rules) (label_at due.hull source) st false → HasInHalf (algebra_of rules) (label_at due.hull source) st true → ⊥
-      by true first second =
+      source : ℕ
+      source = split.line.0
+
+      by : (kind : SplitKind) → IsSourceKind kind → HasInHalf (algebra_of rules) (label_at due.hull source) kind false
+          → HasInHalf (algebra_of rules) (label_at due.hull source) kind true → ⊥
+      by FirstValue may first second = may
+      by Steadiness may first second =
           let moves : IsLaunching (algebra_of rules) target.direction first.0 =
           (due.is_open.is_hull.rest.among source first.0 first.1).start.own own in
           false≢true (sym moves.moves ∙ first.2)
-      by false first second =
+      by LastValue may first second =
           let ends : IsLaunching (algebra_of rules) target.direction first.0 =
           (due.is_open.is_hull.rest.among source first.0 first.1).start.own own in
           let ends_too : IsLaunching (algebra_of rules) target.direction second.0 =
@@ -105,59 +110,60 @@ module _ (c : Circuit) (rules : Rules) (target : Target) where
 
   module _ (sources : List ℕ) (support : AreSupport c rules target.path sources) where
     -- the leaves of both halves together are no more than the combinations that the node leaves
-    halves_fit : (halves : List Half) (steadiness : Bool) (source : ℕ) (first second : Cases)
-        → IsDue c rules target halves steadiness source
+    halves_fit : (halves : List Half) (split : CaseSplit) (first second : Cases)
+        → IsDue c rules target halves split
         → ((s : ℕ) → 1 ≤ weight_of halves s)
-        → (((s : ℕ) → 1 ≤ weight_of (below halves steadiness source false) s)
-        → leaf_count first ≤ product_by (weight_of (below halves steadiness source false)) sources)
-        → (((s : ℕ) → 1 ≤ weight_of (below halves steadiness source true) s)
-        → leaf_count second ≤ product_by (weight_of (below halves steadiness source true)) sources)
+        → (((s : ℕ) → 1 ≤ weight_of (below halves split false) s)
+        → leaf_count first ≤ product_by (weight_of (below halves split false)) sources)
+        → (((s : ℕ) → 1 ≤ weight_of (below halves split true) s)
+        → leaf_count second ≤ product_by (weight_of (below halves split true)) sources)
         → leaf_count first + leaf_count second ≤ product_by (weight_of halves) sources
-    halves_fit halves steadiness source first second due some below_first below_second =
-        let place = (support.exactly source).1 due.in_support in
-        let sum = product_parts (weight_of halves) (weight_of (below halves steadiness source false))
-        (weight_of (below halves steadiness source true)) source parts (same false) (same true) sources support.once place.0 place.1 place.2 in
+    halves_fit halves split first second due some below_first below_second =
+        let place = (support.exactly split.line.0).1 due.in_support in
+        let sum = product_parts (weight_of halves) (weight_of (below halves split false))
+        (weight_of (below halves split true)) split.line.0 parts (same false) (same true) sources support.once place.0 place.1 place.2 in
         omega (arith, sum, below_first (still false due.in_first), below_second (still true due.in_second))
       where
+        source : ℕ
+        source = split.line.0
+
         here : (h : List Half) → weight_of h source ≡ states_left rules h source
         here h = by (source == target.path.source.0) (λ e. eqb-true source target.path.source.0 e)
           where
             by : (own : Bool) → (own ≡ true → source ≡ target.path.source.0)
                 → cond own 1 (states_left rules h source) ≡ states_left rules h source
-            by true tells = absurd (due_other halves steadiness source due (tells refl))
+            by true tells = absurd (due_other halves split due (tells refl))
             by false tells = refl
 
-        parts : weight_of halves source
-            ≡ weight_of (below halves steadiness source false) source + weight_of (below halves steadiness source true) source
+        parts : weight_of halves source ≡ weight_of (below halves split false) source + weight_of (below halves split true) source
         parts = omega (
           arith,
           here halves,
-          here (below halves steadiness source false),
-          here (below halves steadiness source true),
-          split_parts rules halves steadiness source,
+          here (below halves split false),
+          here (below halves split true),
+          split_parts rules halves split due.kind,
         )
 
-        same : (half : Bool) (s : ℕ) → s ≢ source → weight_of halves s ≡ weight_of (below halves steadiness source half) s
+        same : (half : Bool) (s : ℕ) → s ≢ source → weight_of halves s ≡ weight_of (below halves split half) s
         same half s other =
-            ap (λ n. cond (s == target.path.source.0) 1 n) (sym (other_stays rules halves steadiness source half s other))
+            ap (λ n. cond (s == target.path.source.0) 1 n) (sym (other_stays rules halves split half s other))
 
-        still : (half : Bool) → HasInHalf (algebra_of rules) (label_at due.hull source) steadiness half
-            → (s : ℕ) → 1 ≤ weight_of (below halves steadiness source half) s
+        still : (half : Bool) → HasInHalf (algebra_of rules) (label_at due.hull source) split.kind half
+            → (s : ℕ) → 1 ≤ weight_of (below halves split half) s
         still half has s = by (s == source) (λ e. eqb-true s source e) (λ e. ne e)
           where
             ne : (s == source) ≡ false → s ≢ source
             ne e is = false≢true (sym e ∙ ap (λ k. k == source) is ∙ eq-eqb source source refl)
 
             by : (at : Bool) → (at ≡ true → s ≡ source) → (at ≡ false → s ≢ source)
-                → 1 ≤ weight_of (below halves steadiness source half) s
+                → 1 ≤ weight_of (below halves split half) s
             by true tells tells_not =
-                let P : ℕ → Type 0 = λ k. 1 ≤ weight_of (below halves steadiness source half) k in
+                let P : ℕ → Type 0 = λ k. 1 ≤ weight_of (below halves split half) k in
                 subst P (sym (tells refl))
                 (omega (
                   arith,
-                  here (below halves steadiness source half),
-                  half_left halves due.hull steadiness source half due.in_support.is_source
-                      (due_other halves steadiness source due) due.is_open has,
+                  here (below halves split half),
+                  half_left halves due.hull split half due.in_support.is_source (due_other halves split due) due.is_open has,
                 ))
             by false tells tells_not = omega (arith, some s, same half s (tells_not refl))
 
@@ -166,12 +172,9 @@ module _ (c : Circuit) (rules : Rules) (target : Target) where
         → ((s : ℕ) → 1 ≤ weight_of halves s) → leaf_count cases ≤ product_by (weight_of halves) sources
     leaves_fit closed halves spent some = product-pos (weight_of halves) sources some
     leaves_fit waiting halves spent some = product-pos (weight_of halves) sources some
-    leaves_fit (by_value source first second) halves spent some =
-        halves_fit halves false source first second spent.0 some
-        (leaves_fit first (below halves false source false) spent.1) (leaves_fit second (below halves false source true) spent.2)
-    leaves_fit (by_steadiness source first second) halves spent some =
-        halves_fit halves true source first second spent.0 some
-        (leaves_fit first (below halves true source false) spent.1) (leaves_fit second (below halves true source true) spent.2)
+    leaves_fit (split_at split first second) halves spent some =
+        halves_fit halves split first second spent.0 some
+        (leaves_fit first (below halves split false) spent.1) (leaves_fit second (below halves split true) spent.2)
 
 -- what the bound says of a product
 below_power : (rules : Rules) (n leaves product : ℕ) → 0 < n → leaves ≤ product

@@ -6,38 +6,32 @@ use Rattle.std.proofs.lemmas.List.Elements.{Contains-append_left, Contains-appen
 use Rattle.pd_base.specs.Target.{Target}
 use Rattle.pd_base.specs.declared.rules.Rules.{Rules}
 use Rattle.netlist.specs.Circuit.{Circuit}
-use Rattle.state_laws.specs.declared.half.Half.{Half}
+use Rattle.state_laws.specs.declared.split.Split.{Split as CaseSplit}
+use Rattle.state_laws.specs.declared.split.Half.{Half}
 use Rattle.trees.specs.declared.tree.Node.{Node}
-use Rattle.trees.specs.declared.tree.Node.TheVariants.{Closed, Waiting, Value, Steadiness}
+use Rattle.trees.specs.declared.tree.Node.TheVariants.{Closed, Waiting, Split}
 use Rattle.trees.specs.Trees.{Cases, preorder, split_count}
-use Rattle.trees.specs.Trees.Cases.{closed, waiting, by_value, by_steadiness}
+use Rattle.trees.specs.Trees.Cases.{closed, waiting, split_at}
 use Rattle.trees.specs.Refutations.{below, RefutesBelow, IsRefutation}
 use Rattle.trees.specs.Spent.{IsSpentBelow, IsSpent}
-use Rattle.trees.specs.Growing.{split_node, IsOneWith, Grows}
+use Rattle.trees.specs.Growing.{IsOneWith, Grows}
 use Rattle.trees.proofs.Bound.{splits_append}
+use Rattle.trees.proofs.SourceSplits.{due_split}
 
 -- a tree has twice as many nodes as splits, and one
 pub nodes_and_splits : (cases : Cases) → length (preorder cases) ≡ 2 * split_count (preorder cases) + 1
 nodes_and_splits closed = refl
 nodes_and_splits waiting = refl
-nodes_and_splits (by_value source first second) =
-    let one : split_count (preorder (by_value source first second)) ≡ 1 + split_count (preorder first ++ preorder second) =
-    splits_append (Value source ∷ []) (preorder first ++ preorder second) in
+nodes_and_splits (split_at split first second) =
+    let one : split_count (preorder (split_at split first second)) ≡ 1 + split_count (preorder first ++ preorder second) =
+    splits_append (Split split ∷ []) (preorder first ++ preorder second) in
     let two = splits_append (preorder first) (preorder second) in
-    let long : length (preorder (by_value source first second)) ≡ 1 + length (preorder first ++ preorder second) = omega arith in
-    omega (arith, one, two, long, length-append (preorder first) (preorder second), nodes_and_splits first, nodes_and_splits second)
-nodes_and_splits (by_steadiness source first second) =
-    let one : split_count (preorder (by_steadiness source first second)) ≡ 1 + split_count (preorder first ++ preorder second) =
-    splits_append (Steadiness source ∷ []) (preorder first ++ preorder second) in
-    let two = splits_append (preorder first) (preorder second) in
-    let long : length (preorder (by_steadiness source first second)) ≡ 1 + length (preorder first ++ preorder second) = omega arith in
+    let long : length (preorder (split_at split first second)) ≡ 1 + length (preorder first ++ preorder second) = omega arith in
     omega (arith, one, two, long, length-append (preorder first) (preorder second), nodes_and_splits first, nodes_and_splits second)
 
 -- a split more, and a leaf more
-pub splits_with_split : (nodes : List Node) (steadiness : Bool) (source : ℕ)
-    → split_count (nodes ++ split_node steadiness source ∷ []) ≡ split_count nodes + 1
-splits_with_split nodes true source = splits_append nodes (Steadiness source ∷ [])
-splits_with_split nodes false source = splits_append nodes (Value source ∷ [])
+pub splits_with_split : (nodes : List Node) (split : CaseSplit) → split_count (nodes ++ Split split ∷ []) ≡ split_count nodes + 1
+splits_with_split nodes split = splits_append nodes (Split split ∷ [])
 
 pub splits_with_closed : (nodes : List Node) → split_count (nodes ++ Closed ∷ []) ≡ split_count nodes
 splits_with_closed nodes = let e = splits_append nodes (Closed ∷ []) in omega (arith, e)
@@ -58,19 +52,10 @@ module _ (c : Circuit) (rules : Rules) (target : Target) where
       → (Contains (preorder cases) Waiting → ⊥) → RefutesBelow c rules target halves cases
   refutes_if_none_waits halves closed spent none = spent
   refutes_if_none_waits halves waiting spent none = none (0, omega arith, refl)
-  refutes_if_none_waits halves (by_value source first second) spent none = (
-    spent.0.in_support.is_source,
-    refutes_if_none_waits (below halves false source false) first spent.1
-        (none_first (Value source) (preorder first) (preorder second) none),
-    refutes_if_none_waits (below halves false source true) second spent.2
-        (none_second (Value source) (preorder first) (preorder second) none),
-  )
-  refutes_if_none_waits halves (by_steadiness source first second) spent none = (
-    spent.0.in_support.is_source,
-    refutes_if_none_waits (below halves true source false) first spent.1
-        (none_first (Steadiness source) (preorder first) (preorder second) none),
-    refutes_if_none_waits (below halves true source true) second spent.2
-        (none_second (Steadiness source) (preorder first) (preorder second) none),
+  refutes_if_none_waits halves (split_at split first second) spent none = (
+    due_split c rules target halves split spent.0,
+    refutes_if_none_waits (below halves split false) first spent.1 (none_first (Split split) (preorder first) (preorder second) none),
+    refutes_if_none_waits (below halves split true) second spent.2 (none_second (Split split) (preorder first) (preorder second) none),
   )
 
   module _ (nodes : List Node) (grows : Grows c rules target nodes []) where

@@ -1,17 +1,16 @@
 -- Which trees are right at each node, and that no tree is so that has a first node at fault.
-use Rattle.std.proofs.Common.{ℕ, Bool, true, false, List, [], sym, subst, ◌∙◌}
+use Rattle.std.proofs.Common.{ℕ, true, false, List, [], sym, subst, ◌∙◌}
 use Rattle.pd_base.specs.Target.{Target}
 use Rattle.pd_base.specs.declared.rules.Rules.{Rules}
 use Rattle.netlist.specs.Circuit.{Circuit}
-use Rattle.state_laws.specs.declared.half.Half.{Half}
+use Rattle.state_laws.specs.declared.split.Half.{Half}
 use Rattle.trees.specs.declared.tree.Node.{Node}
 use Rattle.trees.specs.Trees.{Cases}
-use Rattle.trees.specs.Trees.Cases.{closed, waiting, by_value, by_steadiness}
+use Rattle.trees.specs.Trees.Cases.{closed, waiting, split_at}
 use Rattle.trees.proofs.Preorders.{preorder_unique}
 use Rattle.trees.specs.Refutations.{below, RefutesBelow, IsRefutation}
 use Rattle.trees.specs.Spent.{IsSpentBelow, IsSpent}
-use Rattle.trees.specs.Faults.{IsRightInRefutation, IsRightInSpent, AreRight, IsSplit, IsFirstFault, IsFaultOfRefutation, IsFaultOfSpent, root_of}
-use Rattle.trees.specs.Faults.IsSplit.{value, steadiness}
+use Rattle.trees.specs.Faults.{IsRightInRefutation, IsRightInSpent, AreRight, IsFirstFault, IsFaultOfRefutation, IsFaultOfSpent, root_of}
 use Rattle.trees.specs.Faults.IsFirstFault.{at_root, in_first, in_second}
 use Rattle.trees.specs.Faults.IsFaultOfSpent.{other_splits, none_open, at_node}
 
@@ -21,58 +20,42 @@ module _ (c : Circuit) (rules : Rules) (target : Target) where
       → RefutesBelow c rules target halves cases
   right_refutes closed halves right = right
   right_refutes waiting halves right = right
-  right_refutes (by_value source first second) halves right =
-      (right.0, right_refutes first (below halves false source false) right.1, right_refutes second (below halves false source true) right.2)
-  right_refutes (by_steadiness source first second) halves right =
-      (right.0, right_refutes first (below halves true source false) right.1, right_refutes second (below halves true source true) right.2)
+  right_refutes (split_at split first second) halves right =
+      (right.0, right_refutes first (below halves split false) right.1, right_refutes second (below halves split true) right.2)
 
   pub refutes_right : (cases : Cases) (halves : List Half) → RefutesBelow c rules target halves cases
       → AreRight (IsRightInRefutation c rules target) halves cases
   refutes_right closed halves right = right
   refutes_right waiting halves right = right
-  refutes_right (by_value source first second) halves right =
-      (right.0, refutes_right first (below halves false source false) right.1, refutes_right second (below halves false source true) right.2)
-  refutes_right (by_steadiness source first second) halves right =
-      (right.0, refutes_right first (below halves true source false) right.1, refutes_right second (below halves true source true) right.2)
+  refutes_right (split_at split first second) halves right =
+      (right.0, refutes_right first (below halves split false) right.1, refutes_right second (below halves split true) right.2)
 
   pub right_spent : (cases : Cases) (halves : List Half) → AreRight (IsRightInSpent c rules target) halves cases
       → IsSpentBelow c rules target halves cases
   right_spent closed halves right = right
   right_spent waiting halves right = right
-  right_spent (by_value source first second) halves right =
-      (right.0, right_spent first (below halves false source false) right.1, right_spent second (below halves false source true) right.2)
-  right_spent (by_steadiness source first second) halves right =
-      (right.0, right_spent first (below halves true source false) right.1, right_spent second (below halves true source true) right.2)
+  right_spent (split_at split first second) halves right =
+      (right.0, right_spent first (below halves split false) right.1, right_spent second (below halves split true) right.2)
 
   pub spent_right : (cases : Cases) (halves : List Half) → IsSpentBelow c rules target halves cases
       → AreRight (IsRightInSpent c rules target) halves cases
   spent_right closed halves right = right
   spent_right waiting halves right = right
-  spent_right (by_value source first second) halves right =
-      (right.0, spent_right first (below halves false source false) right.1, spent_right second (below halves false source true) right.2)
-  spent_right (by_steadiness source first second) halves right =
-      (right.0, spent_right first (below halves true source false) right.1, spent_right second (below halves true source true) right.2)
+  spent_right (split_at split first second) halves right =
+      (right.0, spent_right first (below halves split false) right.1, spent_right second (below halves split true) right.2)
 
 module _ (IsRight : List Half → Node → Type 0) where
   root_right : (cases : Cases) (halves : List Half) → AreRight IsRight halves cases → IsRight halves (root_of cases)
   root_right closed halves right = right
   root_right waiting halves right = right
-  root_right (by_value source first second) halves right = right.0
-  root_right (by_steadiness source first second) halves right = right.0
-
-  -- the halves of cases that are right are right
-  pub halves_right : {cases first second : Cases} {node : Node} {steady : Bool} {source : ℕ}
-      → IsSplit cases node steady source first second → (halves : List Half) → AreRight IsRight halves cases
-      → AreRight IsRight (below halves steady source false) first × AreRight IsRight (below halves steady source true) second
-  halves_right (value source first second) halves right = (right.1, right.2)
-  halves_right (steadiness source first second) halves right = (right.1, right.2)
+  root_right (split_at split first second) halves right = right.0
 
   -- cases with a first fault are not right at each node
   pub fault_not_right : {halves : List Half} {cases : Cases} {place : ℕ} → IsFirstFault IsRight halves cases place
       → AreRight IsRight halves cases → ⊥
   fault_not_right {halves} {cases} (at_root wrong) right = wrong (root_right cases halves right)
-  fault_not_right {halves} (in_first split here fault) right = fault_not_right fault (halves_right split halves right).0
-  fault_not_right {halves} (in_second split here first fault) right = fault_not_right fault (halves_right split halves right).1
+  fault_not_right (in_first here fault) right = fault_not_right fault right.1
+  fault_not_right (in_second here first fault) right = fault_not_right fault right.2
 
 -- a tree with a fault does not refute
 pub fault_refutes_not : (c : Circuit) (rules : Rules) (target : Target) (nodes : List Node) (place : ℕ)

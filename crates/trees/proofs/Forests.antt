@@ -5,9 +5,10 @@ use Rattle.std.proofs.Math.ListN.{drop_of_length-le}
 use Rattle.std.proofs.lemmas.List.{append-nil, length-drop}
 use Rattle.std.proofs.lemmas.Bool.{false≢true}
 use Rattle.std.specs.List.{flat_map}
+use Rattle.state_laws.specs.declared.split.Split.{Split as CaseSplit}
 use Rattle.trees.specs.declared.tree.Node.{Node}
-use Rattle.trees.specs.declared.tree.Node.TheVariants.{Closed, Waiting, Value, Steadiness}
-use Rattle.trees.specs.Trees.{Cases, closed, waiting, by_value, by_steadiness, preorder, IsTree, is_split}
+use Rattle.trees.specs.declared.tree.Node.TheVariants.{Closed, Waiting, Split}
+use Rattle.trees.specs.Trees.{Cases, closed, waiting, split_at, preorder, IsTree, is_split}
 
 -- the nodes fill so many open places, and leave none open
 abbrev pub fills : ℕ → List Node → Bool
@@ -16,18 +17,14 @@ fills zero (node ∷ nodes) = false
 fills (suc places) [] = false
 fills (suc places) (Closed ∷ nodes) = fills places nodes
 fills (suc places) (Waiting ∷ nodes) = fills places nodes
-fills (suc places) (Value source ∷ nodes) = fills (suc (suc places)) nodes
-fills (suc places) (Steadiness source ∷ nodes) = fills (suc (suc places)) nodes
+fills (suc places) (Split split ∷ nodes) = fills (suc (suc places)) nodes
 
 -- a tree fills one place
 pub fills-preorder : (cases : Cases) (places : ℕ) (more : List Node)
     → fills (suc places) (preorder cases ++ more) ≡ fills places more
 fills-preorder closed places more = refl
 fills-preorder waiting places more = refl
-fills-preorder (by_value source first second) places more =
-    ap (fills (suc (suc places))) (append_assoc (preorder first) (preorder second) more)
-    ∙ fills-preorder first (suc places) (preorder second ++ more) ∙ fills-preorder second places more
-fills-preorder (by_steadiness source first second) places more =
+fills-preorder (split_at split first second) places more =
     ap (fills (suc (suc places))) (append_assoc (preorder first) (preorder second) more)
     ∙ fills-preorder first (suc places) (preorder second ++ more) ∙ fills-preorder second places more
 
@@ -38,21 +35,19 @@ pub record Forest (count : ℕ) (nodes : List Node) : Type 0 where
   pub spelled : nodes ≡ flat_map preorder trees
 
 -- a split in front of its two halves makes one tree of the first two
-first_two : (make : Cases → Cases → Cases) (node : Node) (count : ℕ) (nodes : List Node)
-    → ((a b : Cases) → preorder (make a b) ≡ node ∷ (preorder a ++ preorder b))
-    → Forest (suc (suc count)) nodes → Forest (suc count) (node ∷ nodes)
-first_two make node count nodes shape f = by f.trees f.counted f.spelled
+first_two : (split : CaseSplit) (count : ℕ) (nodes : List Node)
+    → Forest (suc (suc count)) nodes → Forest (suc count) (Split split ∷ nodes)
+first_two split count nodes f = by f.trees f.counted f.spelled
   where
     by : (trees : List Cases) → length trees ≡ suc (suc count) → nodes ≡ flat_map preorder trees
-        → Forest (suc count) (node ∷ nodes)
+        → Forest (suc count) (Split split ∷ nodes)
     by [] e spelled = absurd (omega arith)
     by (a ∷ []) e spelled = absurd (omega arith)
     by (a ∷ b ∷ trees) e spelled = record {
-      trees = make a b ∷ trees;
+      trees = split_at split a b ∷ trees;
       counted = omega arith;
-      spelled = ap (λ (ns : List Node). node ∷ ns)
-          (spelled ∙ sym (append_assoc (preorder a) (preorder b) (flat_map preorder trees)))
-          ∙ ap (λ (ns : List Node). ns ++ flat_map preorder trees) (sym (shape a b));
+      spelled = ap (λ (ns : List Node). Split split ∷ ns)
+          (spelled ∙ sym (append_assoc (preorder a) (preorder b) (flat_map preorder trees)));
     }
 
 -- a leaf in front is one tree more
@@ -71,10 +66,7 @@ forest_of_fills zero (node ∷ nodes) h = cc
 forest_of_fills (suc places) [] h = cc
 forest_of_fills (suc places) (Closed ∷ nodes) h = leaf_first closed Closed places nodes refl (forest_of_fills places nodes h)
 forest_of_fills (suc places) (Waiting ∷ nodes) h = leaf_first waiting Waiting places nodes refl (forest_of_fills places nodes h)
-forest_of_fills (suc places) (Value source ∷ nodes) h =
-    first_two (by_value source) (Value source) places nodes (λ a b. refl) (forest_of_fills (suc (suc places)) nodes h)
-forest_of_fills (suc places) (Steadiness source ∷ nodes) h =
-    first_two (by_steadiness source) (Steadiness source) places nodes (λ a b. refl) (forest_of_fills (suc (suc places)) nodes h)
+forest_of_fills (suc places) (Split split ∷ nodes) h = first_two split places nodes (forest_of_fills (suc (suc places)) nodes h)
 
 -- the nodes of one whole tree fill one place
 pub fills_tree : (nodes : List Node) → IsTree nodes → fills 1 nodes ≡ true
@@ -95,8 +87,7 @@ pub fills-more : (places : ℕ) (node : Node) (nodes : List Node)
     → fills (suc places) (node ∷ nodes) ≡ fills (cond (is_split node) (suc (suc places)) places) nodes
 fills-more places Closed nodes = refl
 fills-more places Waiting nodes = refl
-fills-more places (Value source) nodes = refl
-fills-more places (Steadiness source) nodes = refl
+fills-more places (Split split) nodes = refl
 
 -- one step of the walk: what is left fills the next count of places just where it filled the one before
 pub fills-step : (nodes : List Node) (i places next : ℕ) (d : Node) → i < length nodes → 0 < places

@@ -32,7 +32,7 @@ use Rattle.state_sets.specs.StateAlgebra.{StateAlgebra, same_bit}
 use Rattle.state_sets.specs.Starts.{IsLeast}
 use Rattle.state_sets.specs.States.{Has, no_states}
 use Rattle.state_sets.proofs.SixFirst.{six_tells_first}
-use Rattle.state_laws.specs.declared.half.Half.{Half}
+use Rattle.state_laws.specs.declared.split.Half.{Half}
 use Rattle.state_laws.specs.Nodes.{IsNodeHull}
 use Rattle.state_laws.proofs.Linked.{linked_line, linked_source, none_linked}
 use Rattle.state_laws.proofs.LinkedSets.{found_is_link, line_of, linked_once, none_found}

@@ -5,6 +5,7 @@ pub mod Refuting
 pub mod Products
 pub mod Weights
 pub mod Bound
+pub mod SourceSplits
 pub mod Faults
 pub mod Walks
 pub mod Growing

@@ -1,8 +1,9 @@
 -- A list of nodes is the preorder of one tree at most.
-use Rattle.std.proofs.Common.{◌≡◌, ℕ, List, [], ◌++◌, refl, sym, ◌∙◌, append_assoc}
+use Rattle.std.proofs.Common.{◌≡◌, List, [], ◌++◌, refl, sym, ◌∙◌, append_assoc}
 use Rattle.std.proofs.lemmas.List.{append-nil}
+use Rattle.state_laws.specs.declared.split.Split.{Split as CaseSplit}
 use Rattle.trees.specs.declared.tree.Node.{Node}
-use Rattle.trees.specs.Trees.{Cases, closed, waiting, by_value, by_steadiness, preorder}
+use Rattle.trees.specs.Trees.{Cases, closed, waiting, split_at, preorder}
 
 -- the same tree, and the same nodes behind it
 record SameSplit (a b : Cases) (xs ys : List Node) : Type 0 where
@@ -10,37 +11,28 @@ record SameSplit (a b : Cases) (xs ys : List Node) : Type 0 where
   rest : xs ≡ ys
 
 -- the nodes of two halves with more nodes behind them show both, where each half shows itself
-same_halves : (make : ℕ → Cases → Cases → Cases) (r s : ℕ) (a b c d : Cases) (xs ys : List Node)
+same_halves : (r s : CaseSplit) (a b c d : Cases) (xs ys : List Node)
     → r ≡ s → (preorder a ++ preorder b) ++ xs ≡ (preorder c ++ preorder d) ++ ys
     → (preorder a ++ (preorder b ++ xs) ≡ preorder c ++ (preorder d ++ ys) → SameSplit a c (preorder b ++ xs) (preorder d ++ ys))
     → (preorder b ++ xs ≡ preorder d ++ ys → SameSplit b d xs ys)
-    → SameSplit (make r a b) (make s c d) xs ys
-same_halves make r s a b c d xs ys source nodes first second =
+    → SameSplit (split_at r a b) (split_at s c d) xs ys
+same_halves r s a b c d xs ys splits nodes first second =
     let halves = first (sym (append_assoc (preorder a) (preorder b) xs) ∙ nodes ∙ append_assoc (preorder c) (preorder d) ys) in
     let last = second halves.rest in
-    record { tree = cc (source, halves.tree, last.tree); rest = last.rest }
+    record { tree = cc (splits, halves.tree, last.tree); rest = last.rest }
 
 -- a tree's nodes with more nodes behind them show where the tree ends, and which it is
 preorder-split : (a b : Cases) (xs ys : List Node) → preorder a ++ xs ≡ preorder b ++ ys → SameSplit a b xs ys
 preorder-split closed closed xs ys e = record { tree = refl; rest = cc }
 preorder-split closed waiting xs ys e = cc
-preorder-split closed (by_value s c d) xs ys e = cc
-preorder-split closed (by_steadiness s c d) xs ys e = cc
+preorder-split closed (split_at s c d) xs ys e = cc
 preorder-split waiting closed xs ys e = cc
 preorder-split waiting waiting xs ys e = record { tree = refl; rest = cc }
-preorder-split waiting (by_value s c d) xs ys e = cc
-preorder-split waiting (by_steadiness s c d) xs ys e = cc
-preorder-split (by_value r a b) closed xs ys e = cc
-preorder-split (by_value r a b) waiting xs ys e = cc
-preorder-split (by_value r a b) (by_value s c d) xs ys e =
-    same_halves by_value r s a b c d xs ys (cc) (cc)
-    (preorder-split a c (preorder b ++ xs) (preorder d ++ ys)) (preorder-split b d xs ys)
-preorder-split (by_value r a b) (by_steadiness s c d) xs ys e = cc
-preorder-split (by_steadiness r a b) closed xs ys e = cc
-preorder-split (by_steadiness r a b) waiting xs ys e = cc
-preorder-split (by_steadiness r a b) (by_value s c d) xs ys e = cc
-preorder-split (by_steadiness r a b) (by_steadiness s c d) xs ys e =
-    same_halves by_steadiness r s a b c d xs ys (cc) (cc)
+preorder-split waiting (split_at s c d) xs ys e = cc
+preorder-split (split_at r a b) closed xs ys e = cc
+preorder-split (split_at r a b) waiting xs ys e = cc
+preorder-split (split_at r a b) (split_at s c d) xs ys e =
+    same_halves r s a b c d xs ys (cc) (cc)
     (preorder-split a c (preorder b ++ xs) (preorder d ++ ys)) (preorder-split b d xs ys)
 
 -- two trees of the same nodes are one

@@ -1,6 +1,6 @@
 -- A refutation excludes every pair of vectors of its rules: at each split the states of a test lie in one of the halves, and a node whose
 -- lines may be in them does not close. Under rules two the test is held steady at the other sources, and is one still.
-use Rattle.std.proofs.Common.{◌≡◌, Bool, true, false, List, [], refl}
+use Rattle.std.proofs.Common.{⊎_elim, true, false, List, []}
 use Rattle.std.specs.List.{All}
 use Rattle.std.proofs.lemmas.List.Elements.{All-nil, All-push}
 use Rattle.pd_base.specs.Pair.{Vectors}
@@ -19,23 +19,18 @@ use Rattle.path_laws.proofs.Prefixes.{prefix_is_prefix, prefix_meets}
 use Rattle.state_sets.specs.StateAlgebra.{StateAlgebra, HasLaws}
 use Rattle.state_sets.specs.FourLaws.{four_laws}
 use Rattle.state_sets.specs.SixLaws.{six_laws}
-use Rattle.state_sets.specs.LineStates.{state_under}
-use Rattle.state_sets.specs.Starts.{IsInHalf}
-use Rattle.state_laws.specs.declared.half.Half.{Half}
+use Rattle.state_laws.specs.declared.split.Half.{Half}
+use Rattle.state_laws.specs.Halves.{LiesInHalf}
 use Rattle.state_laws.specs.Steadied.{KeepsRules, steadied}
+use Rattle.state_laws.proofs.Halves.{lies_in_one}
 use Rattle.state_laws.proofs.Pairs.{node_never_closes}
 use Rattle.state_laws.proofs.Steadied.{steadied_keeps, steadied_meets}
 use Rattle.trees.specs.declared.tree.Node.{Node}
 use Rattle.trees.specs.Trees.{Cases}
-use Rattle.trees.specs.Trees.Cases.{closed, waiting, by_value, by_steadiness}
+use Rattle.trees.specs.Trees.Cases.{closed, waiting, split_at}
 use Rattle.state_laws.proofs.Linked.{none_linked}
 use Rattle.trees.specs.Algebras.{algebra_of}
 use Rattle.trees.specs.Refutations.{below, RefutesBelow, IsRefutation}
-
--- what follows of either value of a bit
-by_bit : {X : Type 0} (bit : Bool) → (bit ≡ true → X) → (bit ≡ false → X) → X
-by_bit true of_one of_zero = of_one refl
-by_bit false of_one of_zero = of_zero refl
 
 -- the kind of states under any rules keeps the laws
 pub laws_of : (rules : Rules) → HasLaws (algebra_of rules)
@@ -48,26 +43,23 @@ module _ (c : Circuit) (circuit : IsCircuit c) (rules : Rules) (fit : FitRules c
   a = algebra_of rules
 
   module _ (pair : Vectors) (of : IsOfRules c rules pair) (meets : Meets c target pair) (keeps : KeepsRules a c rules target.path.source.0 pair) where
-    -- the states of the pair lie in the half
-    abbrev LiesInHalf : Half → Type 0
-    LiesInHalf half = IsInHalf a half.steadiness half.second (state_under a c pair half.source)
+    -- the pair lies in the half
+    abbrev Lies : Half → Type 0
+    Lies = LiesInHalf a c pair
 
-    -- below halves in which they lie no cases refute
-    never_refutes : (halves : List Half) → All LiesInHalf halves → (cases : Cases) → RefutesBelow c rules target halves cases → ⊥
+    -- below halves in which it lies no cases refute
+    never_refutes : (halves : List Half) → All Lies halves → (cases : Cases) → RefutesBelow c rules target halves cases → ⊥
     never_refutes halves lie closed refutes =
         node_never_closes a (laws_of rules) c circuit rules fit target is pair of meets keeps halves lie refutes
     never_refutes halves lie waiting refutes = refutes
-    never_refutes halves lie (by_value source first second) refutes =
-        by_bit (a.last (state_under a c pair source))
-        (λ one. never_refutes (below halves false source true) (All-push LiesInHalf halves _ lie one) second refutes.2)
-        (λ zero. never_refutes (below halves false source false) (All-push LiesInHalf halves _ lie zero) first refutes.1)
-    never_refutes halves lie (by_steadiness source first second) refutes =
-        by_bit (a.steady (state_under a c pair source))
-        (λ steady. never_refutes (below halves true source false) (All-push LiesInHalf halves _ lie steady) first refutes.1)
-        (λ moves. never_refutes (below halves true source true) (All-push LiesInHalf halves _ lie moves) second refutes.2)
+    never_refutes halves lie (split_at split first second) refutes =
+        ⊎_elim
+        (λ in_first. never_refutes (below halves split false) (All-push Lies halves _ lie in_first) first refutes.1)
+        (λ in_second. never_refutes (below halves split true) (All-push Lies halves _ lie in_second) second refutes.2)
+        (lies_in_one a (laws_of rules) c circuit pair split)
 
     pub tree_never_refutes : (nodes : List Node) → IsRefutation c rules target nodes → ⊥
-    tree_never_refutes nodes refutation = never_refutes [] (All-nil LiesInHalf) refutation.cases refutation.refutes
+    tree_never_refutes nodes refutation = never_refutes [] (All-nil Lies) refutation.cases refutation.refutes
 
 -- no pair of the rules meets the conditions that a tree refutes
 pub refutation_excludes : (c : Circuit) → IsCircuit c → (rules : Rules) → FitRules c rules → (target : Target) → IsPrefix c target.path

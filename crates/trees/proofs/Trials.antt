@@ -22,9 +22,10 @@ use Rattle.state_sets.specs.StateAlgebra.{StateAlgebra, same_bit}
 use Rattle.state_sets.specs.FourLaws.{four_laws}
 use Rattle.state_sets.specs.LineStates.{state_under}
 use Rattle.state_sets.specs.Labellings.{label_at}
-use Rattle.state_sets.specs.Starts.{IsInHalf, IsLeast}
+use Rattle.state_sets.specs.Starts.{IsLeast}
 use Rattle.state_sets.specs.Hulls.{IsNarrowingOf, IsRestAmong, HasNoEmptySet, Closes}
-use Rattle.state_laws.specs.declared.half.Half.{Half}
+use Rattle.state_laws.specs.declared.split.Half.{Half}
+use Rattle.state_laws.specs.Halves.{LiesInHalf}
 use Rattle.state_laws.specs.Nodes.{IsNodeHull}
 use Rattle.state_laws.specs.Steadied.{KeepsRules, steadied}
 use Rattle.state_laws.proofs.Linked.{none_linked}
@@ -78,16 +79,17 @@ module _ (c : Circuit) (circuit : IsCircuit c) (rules : Rules) (fit : FitRules c
       target.direction (λ state may. may.at_node.start.own refl)
 
   -- the pair's states lie in the halves above the node, where these are of sources of the support
-  pub least_in_halves : IsNodeHull a c rules target halves hull → All (λ half. IsInSupport c rules target.path half.source) halves
-      → All (λ half. IsInHalf a half.steadiness half.second (state_under a c pair half.source)) halves
+  pub least_in_halves : IsNodeHull a c rules target halves hull → All (λ half. IsInSupport c rules target.path half.split.line.0) halves
+      → All (LiesInHalf a c pair) halves
   least_in_halves of on k d inside =
       let half = get_or halves k d in
-      (of.rest.among half.source (state_under a c pair half.source) (takes half.source (on k d inside)).has).cut k d inside refl
+      let source = half.split.line.0 in
+      (of.rest.among source (state_under a c pair source) (takes source (on k d inside)).has).cut k d inside refl
 
   -- and the trial does not close where the pair is a test of the rules under which the other sources start as the rules leave them, and
   -- whose states lie in the halves above the node
   pub trial_stays_open : IsOfRules c rules pair → Meets c target pair → KeepsRules a c rules target.path.source.0 pair
-      → All (λ half. IsInHalf a half.steadiness half.second (state_under a c pair half.source)) halves
+      → All (LiesInHalf a c pair) halves
       → ¬ Closes a c (IsNarrowingOf c (links_of rules) target.kind target.path.steps) (MayTry c rules target halves hull)
   trial_stays_open of meets keeps lie =
       never_closes a (laws_of rules) c circuit pair target.kind target.path is (links_of rules) fit of meets.sides
@@ -99,7 +101,7 @@ module _ (c : Circuit) (circuit : IsCircuit c) (rules : Rules) (fit : FitRules c
 
   -- so at an open node such a pair is no pair of the rules or no test
   fails_if_keeps : KeepsRules a c rules target.path.source.0 pair → IsOpen c rules target halves hull
-      → All (λ half. IsInSupport c rules target.path half.source) halves → IsOfRules c rules pair → ¬ Meets c target pair
+      → All (λ half. IsInSupport c rules target.path half.split.line.0) halves → IsOfRules c rules pair → ¬ Meets c target pair
   fails_if_keeps keeps open_here on of meets =
       trial_stays_open of meets keeps (least_in_halves open_here.is_hull on) open_here.trial
 
@@ -148,7 +150,7 @@ module _ (c : Circuit) (target : Target) (is : IsPrefix c target.path) (halves :
 -- pair of the rules or fails the conditions.
 pub open_fails : (c : Circuit) → IsCircuit c → (rules : Rules) → FitRules c rules → (target : Target) → IsPrefix c target.path
     → (halves : List Half) (hull : List StateSet) → IsOpen c rules target halves hull
-    → All (λ half. IsInSupport c rules target.path half.source) halves
+    → All (λ half. IsInSupport c rules target.path half.split.line.0) halves
     → (pair : Vectors) → TakesLeast c rules target.path hull pair → IsOfRules c rules pair → ¬ Meets c target pair
 open_fails c circuit One fit target is halves hull open_here on pair takes of =
     fails_if_keeps c circuit One fit target is halves hull pair takes (λ other within apart. tt) open_here on of

@@ -10,10 +10,10 @@ use Rattle.netlist.specs.Lawful.{IsCircuit}
 use Rattle.netlist.specs.LinkedPairs.{FitRules}
 use Rattle.netlist.specs.Paths.{IsPrefix}
 use Rattle.state_sets.specs.declared.state.StateSet.{StateSet}
-use Rattle.state_laws.specs.declared.half.Half.{Half}
+use Rattle.state_laws.specs.declared.split.Half.{Half}
 use Rattle.trees.specs.declared.tree.Node.{Node}
 use Rattle.trees.specs.Trees.{Cases}
-use Rattle.trees.specs.Trees.Cases.{closed, waiting, by_value, by_steadiness}
+use Rattle.trees.specs.Trees.Cases.{closed, waiting, split_at}
 use Rattle.trees.proofs.Preorders.{preorder_unique}
 use Rattle.trees.specs.Refutations.{below}
 use Rattle.trees.specs.Spent.{IsInSupport, IsOpen, IsSpentBelow, IsSpent}
@@ -23,7 +23,7 @@ use Rattle.trees.proofs.Trials.{open_fails}
 
 module _ (c : Circuit) (circuit : IsCircuit c) (rules : Rules) (fit : FitRules c rules) (target : Target) (is : IsPrefix c target.path) where
   abbrev OnSupport : Half → Type 0
-  OnSupport half = IsInSupport c rules target.path half.source
+  OnSupport half = IsInSupport c rules target.path half.split.line.0
 
   node_fails : (halves : List Half) → All OnSupport halves → (hull : List StateSet) → IsOpen c rules target halves hull
       → LeastPairsFailAt c rules target halves
@@ -42,15 +42,10 @@ module _ (c : Circuit) (circuit : IsCircuit c) (rules : Rules) (fit : FitRules c
       → LeastPairsFailBelow c rules target halves cases
   spent_fails_below closed halves on spent = tt
   spent_fails_below waiting halves on spent = node_fails halves on spent.0 spent.1
-  spent_fails_below (by_value source first second) halves on spent = (
+  spent_fails_below (split_at split first second) halves on spent = (
     node_fails halves on spent.0.hull spent.0.is_open,
-    spent_fails_below first (below halves false source false) (All-push OnSupport halves _ on spent.0.in_support) spent.1,
-    spent_fails_below second (below halves false source true) (All-push OnSupport halves _ on spent.0.in_support) spent.2,
-  )
-  spent_fails_below (by_steadiness source first second) halves on spent = (
-    node_fails halves on spent.0.hull spent.0.is_open,
-    spent_fails_below first (below halves true source false) (All-push OnSupport halves _ on spent.0.in_support) spent.1,
-    spent_fails_below second (below halves true source true) (All-push OnSupport halves _ on spent.0.in_support) spent.2,
+    spent_fails_below first (below halves split false) (All-push OnSupport halves _ on spent.0.in_support) spent.1,
+    spent_fails_below second (below halves split true) (All-push OnSupport halves _ on spent.0.in_support) spent.2,
   )
 
   -- at each split and each open leaf of a spent tree every pair that has the least states of the hull at the sources of the support is no

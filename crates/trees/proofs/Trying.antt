@@ -22,7 +22,7 @@ use Rattle.state_sets.specs.LineStates.{state_under}
 use Rattle.state_sets.specs.Labellings.{label_at, LiesIn}
 use Rattle.state_sets.specs.Starts.{IsLaunching}
 use Rattle.state_sets.specs.Hulls.{IsNarrowingOf, IsRestAmong, HasAt, HasNoEmptySet, Closes}
-use Rattle.state_laws.specs.declared.half.Half.{Half}
+use Rattle.state_laws.specs.declared.split.Half.{Half}
 use Rattle.state_laws.specs.FailedTrials.{FailsTrial}
 use Rattle.state_laws.specs.FailedTrials.FailsTrial.{at_label, at_link, at_conditions}
 use Rattle.state_laws.specs.Nodes.{MayBe, IsNodeHull, ClosesAtNode}

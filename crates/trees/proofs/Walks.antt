@@ -1,18 +1,18 @@
 -- A walk over the nodes of a tree in preorder, with the halves above the node that it stands at. Behind that node wait the trees
 -- of the second halves, one for each first half above.
-use Rattle.std.proofs.Common.{◌≡◌, ℕ, ◌+◌, ◌⊎◌, inl, inr, Bool, true, false, List, [], ◌∷◌, ◌++◌, map, length, drop, refl, sym, ap, ◌∙◌, subst, append_assoc, arith}
+use Rattle.std.proofs.Common.{◌≡◌, ℕ, ◌+◌, ◌⊎◌, inl, inr, true, false, List, [], ◌∷◌, ◌++◌, map, length, drop, refl, sym, ap, ◌∙◌, subst, append_assoc, arith}
 use Rattle.std.specs.List.{flat_map}
 use Rattle.std.proofs.lemmas.List.{append-nil, length-append}
 use Rattle.std.proofs.lemmas.Bool.{false≢true}
-use Rattle.state_laws.specs.declared.half.Half.{Half}
+use Rattle.state_laws.specs.declared.split.Split.{Split as CaseSplit}
+use Rattle.state_laws.specs.declared.split.Half.{Half}
 use Rattle.trees.specs.declared.tree.Node.{Node}
-use Rattle.trees.specs.declared.tree.Node.TheVariants.{Value, Steadiness}
+use Rattle.trees.specs.declared.tree.Node.TheVariants.{Split}
 use Rattle.trees.specs.Trees.{Cases, preorder, is_split}
-use Rattle.trees.specs.Trees.Cases.{closed, waiting, by_value, by_steadiness}
-use Rattle.trees.specs.Refutations.{below}
+use Rattle.trees.specs.Trees.Cases.{closed, waiting, split_at}
+use Rattle.state_laws.specs.Halves.{half_of}
 use Rattle.trees.specs.Halves.{halves_of, turns, GoesOn}
-use Rattle.trees.specs.Faults.{AreRight, IsSplit, IsFirstFault, root_of}
-use Rattle.trees.specs.Faults.IsSplit.{value, steadiness}
+use Rattle.trees.specs.Faults.{AreRight, IsFirstFault, root_of}
 use Rattle.trees.specs.Faults.IsFirstFault.{at_root, in_first, in_second}
 
 -- a tree below some halves, from the deepest up
@@ -86,8 +86,7 @@ module _ (IsRight : List Half → Node → Type 0) where
       same_root : (cases : Cases) (more : List Node) → preorder cases ++ more ≡ node ∷ later_nodes → root_of cases ≡ node
       same_root closed more e = cc
       same_root waiting more e = cc
-      same_root (by_value source first second) more e = cc
-      same_root (by_steadiness source first second) more e = cc
+      same_root (split_at split first second) more e = cc
 
       by : (parts : List Part) → drop place nodes ≡ nodes_of parts → Follows above parts
           → (AreAllRight parts → AreRight IsRight [] whole)
@@ -139,8 +138,7 @@ module _ (IsRight : List Half → Node → Type 0) where
       some : (cases : Cases) (more : List Node) → [] ≡ preorder cases ++ more → ⊥
       some closed more e = cc
       some waiting more e = cc
-      some (by_value source first second) more e = cc
-      some (by_steadiness source first second) more e = cc
+      some (split_at split first second) more e = cc
 
       by : (parts : List Part) → [] ≡ nodes_of parts → (AreAllRight parts → AreRight IsRight [] whole) → AreRight IsRight [] whole
       by [] e right = right tt
@@ -192,109 +190,67 @@ module _ (IsRight : List Half → Node → Type 0) where
       by waiting behind rest root follows right fault =
           stepped waiting behind (ap (λ (n : Node). n ∷ []) root)
           (subst (IsRight (halves_of above)) (sym root) is_right) rest follows right fault
-      by (by_value source first second) behind rest root follows right fault =
-          absurd (false≢true (sym leaf ∙ ap is_split (sym root)))
-      by (by_steadiness source first second) behind rest root follows right fault =
+      by (split_at split first second) behind rest root follows right fault =
           absurd (false≢true (sym leaf ∙ ap is_split (sym root)))
 
-  split_nodes : {cases first second : Cases} {node : Node} {steady : Bool} {source : ℕ}
-      → IsSplit cases node steady source first second → preorder cases ≡ node ∷ (preorder first ++ preorder second)
-  split_nodes (value source first second) = refl
-  split_nodes (steadiness source first second) = refl
+  module _ (whole : Cases) (nodes : List Node) (place : ℕ) (above : List Half) (split : CaseSplit)
+      (is_right : IsRight (halves_of above) (Split split)) (behind : List Part) (first second : Cases) where
+    -- the cases at which the walk stands, split so
+    abbrev here_cases : Cases
+    here_cases = split_at split first second
 
-  split_root : {cases first second : Cases} {node : Node} {steady : Bool} {source : ℕ}
-      → IsSplit cases node steady source first second → root_of cases ≡ node
-  split_root (value source first second) = refl
-  split_root (steadiness source first second) = refl
-
-  split_right : {cases first second : Cases} {node : Node} {steady : Bool} {source : ℕ}
-      → IsSplit cases node steady source first second → (halves : List Half) → IsRight halves node
-      → AreRight IsRight (below halves steady source false) first → AreRight IsRight (below halves steady source true) second
-      → AreRight IsRight halves cases
-  split_right (value source first second) halves a b d = (a, b, d)
-  split_right (steadiness source first second) halves a b d = (a, b, d)
-
-  -- the node is a split at a source, by steadiness or by value
-  pub data IsSplitNode : Node → Bool → ℕ → Type 0 where
-    value_node : (source : ℕ) → IsSplitNode (Value source) false source
-    steadiness_node : (source : ℕ) → IsSplitNode (Steadiness source) true source
-
-  -- cases whose root it is are split so
-  pub record Parted (cases : Cases) (node : Node) (steady : Bool) (source : ℕ) : Type 0 where
-    pub first : Cases
-    pub second : Cases
-    pub split : IsSplit cases node steady source first second
-
-  parted : (cases : Cases) {node : Node} {steady : Bool} {source : ℕ} → IsSplitNode node steady source → root_of cases ≡ node
-      → Parted cases node steady source
-  parted closed (value_node source) e = cc
-  parted waiting (value_node source) e = cc
-  parted (by_value s first second) (value_node source) e =
-      let same : s ≡ source = cc in
-      let P : ℕ → Type 0 = λ k. Parted (by_value s first second) (Value k) false k in
-      subst P same (record { first = first; second = second; split = value s first second })
-  parted (by_steadiness s first second) (value_node source) e = cc
-  parted closed (steadiness_node source) e = cc
-  parted waiting (steadiness_node source) e = cc
-  parted (by_value s first second) (steadiness_node source) e = cc
-  parted (by_steadiness s first second) (steadiness_node source) e =
-      let same : s ≡ source = cc in
-      let P : ℕ → Type 0 = λ k. Parted (by_steadiness s first second) (Steadiness k) true k in
-      subst P same (record { first = first; second = second; split = steadiness s first second })
-
-  module _ (whole : Cases) (nodes : List Node) (place : ℕ) (above : List Half) (node : Node) (steady : Bool) (source : ℕ)
-      (is_right : IsRight (halves_of above) node) (cases : Cases) (behind : List Part) (first second : Cases)
-      (split : IsSplit cases node steady source first second) where
     abbrev in_halves : List Part
     in_halves =
-        record { above = record { source = source; steadiness = steady; second = false } ∷ above; cases = first }
-        ∷ record { above = record { source = source; steadiness = steady; second = true } ∷ above; cases = second } ∷ behind
+        record { above = half_of split false ∷ above; cases = first } ∷ record { above = half_of split true ∷ above; cases = second } ∷ behind
 
-    moved : ((more : ℕ) → IsFaultIn (record { above = above; cases = cases } ∷ behind) more
+    counted : length (preorder here_cases) ≡ 1 + (length (preorder first) + length (preorder second))
+    counted = omega (arith, length-append (preorder first) (preorder second))
+
+    moved : ((more : ℕ) → IsFaultIn (record { above = above; cases = here_cases } ∷ behind) more
         → IsFirstFault IsRight [] whole (place + more))
         → (more : ℕ) → IsFaultIn in_halves more → IsFirstFault IsRight [] whole (place + 1 + more)
     moved fault more (here is_fault) =
-        subst (IsFirstFault IsRight [] whole) (omega arith) (fault (1 + more) (here (in_first split is_right is_fault)))
+        subst (IsFirstFault IsRight [] whole) (omega arith) (fault (1 + more) (here (in_first is_right is_fault)))
     moved fault more (later right_first (here {place = inner} is_fault)) =
         subst (IsFirstFault IsRight [] whole) (omega arith)
-        (fault (1 + (length (preorder first) + inner)) (here (in_second split is_right right_first is_fault)))
+        (fault (1 + (length (preorder first) + inner)) (here (in_second is_right right_first is_fault)))
     moved fault more (later right_first (later {place = inner} right_second is_fault)) =
-        let long : length (preorder cases) ≡ 1 + (length (preorder first) + length (preorder second)) =
-        ap length (split_nodes split) ∙ counted in
-        subst (IsFirstFault IsRight [] whole) (omega arith)
-        (fault (length (preorder cases) + inner)
-        (later (split_right split (halves_of above) is_right right_first right_second) is_fault))
-      where
-        counted : length (node ∷ (preorder first ++ preorder second)) ≡ 1 + (length (preorder first) + length (preorder second))
-        counted = omega (arith, length-append (preorder first) (preorder second))
+        subst (IsFirstFault IsRight [] whole) (omega (arith, counted))
+        (fault (length (preorder here_cases) + inner) (later (is_right, right_first, right_second) is_fault))
 
-    come_parted : node ∷ drop (place + 1) nodes ≡ preorder cases ++ nodes_of behind
+    come_parted : Split split ∷ drop (place + 1) nodes ≡ preorder here_cases ++ nodes_of behind
         → map (λ part. part.above) behind ≡ turns above
-        → (AreRight IsRight (halves_of above) cases → AreAllRight behind → AreRight IsRight [] whole)
-        → ((more : ℕ) → IsFaultIn (record { above = above; cases = cases } ∷ behind) more
+        → (AreRight IsRight (halves_of above) here_cases → AreAllRight behind → AreRight IsRight [] whole)
+        → ((more : ℕ) → IsFaultIn (record { above = above; cases = here_cases } ∷ behind) more
         → IsFirstFault IsRight [] whole (place + more))
-        → HasCome whole nodes (place + 1) (record { source = source; steadiness = steady; second = false } ∷ above)
+        → HasCome whole nodes (place + 1) (half_of split false ∷ above)
     come_parted rest follows right fault =
-        let both : node ∷ drop (place + 1) nodes ≡ node ∷ ((preorder first ++ preorder second) ++ nodes_of behind) =
-        rest ∙ ap (λ (ns : List Node). ns ++ nodes_of behind) (split_nodes split) in
         let behind_node : drop (place + 1) nodes ≡ (preorder first ++ preorder second) ++ nodes_of behind = cc in
         record {
           parts = in_halves;
           rest = behind_node ∙ append_assoc (preorder first) (preorder second) (nodes_of behind);
-          follows = inr (ap (λ (ls : List (List Half)).
-              (record { source = source; steadiness = steady; second = false } ∷ above)
-              ∷ (record { source = source; steadiness = steady; second = true } ∷ above) ∷ ls) follows);
-          right = λ all. right (split_right split (halves_of above) is_right all.0 all.1.0) all.1.1;
+          follows = inr (ap (λ (ls : List (List Half)). (half_of split false ∷ above) ∷ (half_of split true ∷ above) ∷ ls) follows);
+          right = λ all. right (is_right, all.0, all.1.0) all.1.1;
           fault = moved fault;
         }
 
   -- below a split that is right, in its first half
-  pub come_split : (whole : Cases) (nodes : List Node) (place : ℕ) (above : List Half) (node : Node) (steady : Bool) (source : ℕ)
-      → drop place nodes ≡ node ∷ drop (place + 1) nodes → IsSplitNode node steady source → IsRight (halves_of above) node
-      → HasCome whole nodes place above
-      → HasCome whole nodes (place + 1) (record { source = source; steadiness = steady; second = false } ∷ above)
-  come_split whole nodes place above node steady source is node_is is_right come =
-      let stands = come_stands whole nodes place above node (drop (place + 1) nodes) is come in
-      let halves = parted stands.cases node_is stands.root in
-      come_parted whole nodes place above node steady source is_right stands.cases stands.behind halves.first halves.second halves.split
-      (sym is ∙ stands.rest) stands.follows stands.right stands.fault
+  pub come_split : (whole : Cases) (nodes : List Node) (place : ℕ) (above : List Half) (split : CaseSplit)
+      → drop place nodes ≡ Split split ∷ drop (place + 1) nodes → IsRight (halves_of above) (Split split)
+      → HasCome whole nodes place above → HasCome whole nodes (place + 1) (half_of split false ∷ above)
+  come_split whole nodes place above split is is_right come =
+      let stands = come_stands whole nodes place above (Split split) (drop (place + 1) nodes) is come in
+      by stands.cases stands.root stands.behind (sym is ∙ stands.rest) stands.follows stands.right stands.fault
+    where
+      by : (cases : Cases) → root_of cases ≡ Split split → (behind : List Part)
+          → Split split ∷ drop (place + 1) nodes ≡ preorder cases ++ nodes_of behind
+          → map (λ part. part.above) behind ≡ turns above
+          → (AreRight IsRight (halves_of above) cases → AreAllRight behind → AreRight IsRight [] whole)
+          → ((more : ℕ) → IsFaultIn (record { above = above; cases = cases } ∷ behind) more → IsFirstFault IsRight [] whole (place + more))
+          → HasCome whole nodes (place + 1) (half_of split false ∷ above)
+      by closed root behind rest follows right fault = cc
+      by waiting root behind rest follows right fault = cc
+      by (split_at other first second) root behind rest follows right fault =
+          let same : other ≡ split = cc in
+          let P : CaseSplit → Type 0 = λ s. IsRight (halves_of above) (Split s) → HasCome whole nodes (place + 1) (half_of s false ∷ above) in
+          subst P same (λ right_here. come_parted whole nodes place above other right_here behind first second (cc) follows right fault) is_right

@@ -1,5 +1,5 @@
 -- How many combinations of steadiness and last value the rules and the halves above a node leave a source, and how a split parts them:
--- these two bits of a state decide whether it is in a half.
+-- these two bits of a state decide whether it is in a half of a split at a source.
 use Rattle.std.proofs.Common.{◌≡◌, ◌≢◌, ℕ, ◌+◌, ◌≤◌, Bool, true, false, cond, not, ◌&&◌, ◌==◌, List, [], ◌∷◌, ◌++◌, refl, sym, ap, ◌∙◌, arith, eq-eqb}
 use Rattle.std.specs.Prelude.{All}
 use Rattle.std.proofs.lemmas.List.Elements.{All-tail}
@@ -8,20 +8,26 @@ use Rattle.pd_base.specs.declared.rules.Rules.{Rules}
 use Rattle.pd_base.specs.declared.rules.Rules.TheVariants.{One, Two, Linked}
 use Rattle.state_sets.specs.declared.state.State.{State}
 use Rattle.state_sets.specs.StateAlgebra.{StateAlgebra, same_bit}
-use Rattle.state_sets.specs.Starts.{IsInHalf, IsOtherStart}
-use Rattle.state_laws.specs.declared.half.Half.{Half}
+use Rattle.state_sets.specs.Starts.{IsOtherStart}
+use Rattle.state_laws.specs.declared.split.SplitKind.{SplitKind}
+use Rattle.state_laws.specs.declared.split.SplitKind.TheVariants.{LastValue, Steadiness, FirstValue}
+use Rattle.state_laws.specs.declared.split.Split.{Split}
+use Rattle.state_laws.specs.declared.split.Half.{Half}
+use Rattle.state_laws.specs.Halves.{IsInHalf, half_of}
 use Rattle.state_laws.specs.Nodes.{IsCut}
 use Rattle.trees.specs.Bounds.{states_of_source}
+use Rattle.trees.specs.Trees.{IsSourceKind}
 use Rattle.trees.specs.Refutations.{below}
 
--- whether a state that is steady or not and has this last value is in a half
-abbrev pub in_half : (steadiness second : Bool) (steady last : Bool) → Bool
-in_half true second steady last = same_bit steady (not second)
-in_half false second steady last = same_bit last second
+-- whether a state that is steady or not and has this last value may be in a half: these bits tell nothing of first values
+abbrev pub in_half : SplitKind → (second steady last : Bool) → Bool
+in_half LastValue second steady last = same_bit last second
+in_half Steadiness second steady last = same_bit steady (not second)
+in_half FirstValue second steady last = true
 
 -- whether the half, if it is one of this source, leaves it such a state
 abbrev pub leaves_one : ℕ → Half → (steady last : Bool) → Bool
-leaves_one source half steady last = cond (source == half.source) (in_half half.steadiness half.second steady last) true
+leaves_one source half steady last = cond (source == half.split.line.0) (in_half half.split.kind half.second steady last) true
 
 -- whether a source that is not the path's own may start in a state that is steady or not
 abbrev pub may_start_in : Rules → (steady : Bool) → Bool
@@ -64,17 +70,18 @@ both_pass a b is_a is_b = cc
 
 module _ (a : StateAlgebra) (state : State) where
   -- a state in a half passes the test of it
-  pub in_half_passes : (steadiness second : Bool) → IsInHalf a steadiness second state
-      → in_half steadiness second (a.steady state) (a.last state) ≡ true
-  in_half_passes true second is = same_bit_itself (a.steady state) (not second) is
-  in_half_passes false second is = same_bit_itself (a.last state) second is
+  pub in_half_passes : (kind : SplitKind) (second : Bool) → IsInHalf a kind second state
+      → in_half kind second (a.steady state) (a.last state) ≡ true
+  in_half_passes LastValue second is = same_bit_itself (a.last state) second is
+  in_half_passes Steadiness second is = same_bit_itself (a.steady state) (not second) is
+  in_half_passes FirstValue second is = refl
 
   one_passes : (source : ℕ) (half : Half) → IsCut a source state half → leaves_one source half (a.steady state) (a.last state) ≡ true
-  one_passes source half cut = by (source == half.source) (λ e. eqb-true source half.source e)
+  one_passes source half cut = by (source == half.split.line.0) (λ e. eqb-true source half.split.line.0 e)
     where
-      by : (same : Bool) → (same ≡ true → source ≡ half.source)
-          → cond same (in_half half.steadiness half.second (a.steady state) (a.last state)) true ≡ true
-      by true tells = in_half_passes half.steadiness half.second (cut (tells refl))
+      by : (same : Bool) → (same ≡ true → source ≡ half.split.line.0)
+          → cond same (in_half half.split.kind half.second (a.steady state) (a.last state)) true ≡ true
+      by true tells = in_half_passes half.split.kind half.second (cut (tells refl))
       by false tells = refl
 
   start_passes : (rules : Rules) → IsOtherStart a rules state → may_start_in rules (a.steady state) ≡ true
@@ -117,34 +124,35 @@ leaves_more rules (first ∷ halves) half source steady last =
     by false b c = refl
 
 -- a half of another source leaves a source all its states
-pub other_stays : (rules : Rules) (halves : List Half) (steadiness : Bool) (split : ℕ) (second : Bool) (source : ℕ) → source ≢ split
-    → states_left rules (below halves steadiness split second) source ≡ states_left rules halves source
-other_stays rules halves steadiness split second source other = cong4 (same true true) (same true false) (same false true) (same false false)
+pub other_stays : (rules : Rules) (halves : List Half) (split : Split) (second : Bool) (source : ℕ) → source ≢ split.line.0
+    → states_left rules (below halves split second) source ≡ states_left rules halves source
+other_stays rules halves split second source other = cong4 (same true true) (same true false) (same false true) (same false false)
   where
-    by : (same : Bool) → (same ≡ true → source ≡ split) → (a b : Bool) → (a && cond same b true) ≡ a
+    by : (same : Bool) → (same ≡ true → source ≡ split.line.0) → (a b : Bool) → (a && cond same b true) ≡ a
     by true tells a b = absurd (other (tells refl))
     by false tells true b = refl
     by false tells false b = refl
 
     same : (steady last : Bool)
-        → leaves_all rules (below halves steadiness split second) source steady last ≡ leaves_all rules halves source steady last
+        → leaves_all rules (below halves split second) source steady last ≡ leaves_all rules halves source steady last
     same steady last =
-        leaves_more rules halves (record { source = split; steadiness = steadiness; second = second }) source steady last
-        ∙ by (source == split) (λ e. eqb-true source split e) (leaves_all rules halves source steady last)
-        (in_half steadiness second steady last)
+        leaves_more rules halves (half_of split second) source steady last
+        ∙ by (source == split.line.0) (λ e. eqb-true source split.line.0 e) (leaves_all rules halves source steady last)
+        (in_half split.kind second steady last)
 
     cong4 : {a b c d p q r s : Bool} → a ≡ p → b ≡ q → c ≡ r → d ≡ s
         → one_if a + one_if b + one_if c + one_if d ≡ one_if p + one_if q + one_if r + one_if s
     cong4 e f g h = cc
 
--- a split parts the states of its source
-pub split_parts : (rules : Rules) (halves : List Half) (steadiness : Bool) (split : ℕ)
-    → states_left rules halves split ≡ states_left rules (below halves steadiness split false) split + states_left rules (below halves steadiness split true) split
-split_parts rules halves steadiness split =
+-- a split by the last value or the steadiness parts the states of its source
+pub split_parts : (rules : Rules) (halves : List Half) (split : Split) → IsSourceKind split.kind
+    → states_left rules halves split.line.0
+    ≡ states_left rules (below halves split false) split.line.0 + states_left rules (below halves split true) split.line.0
+split_parts rules halves split is =
     omega (arith, parts true true, parts true false, parts false true, parts false false)
   where
-    itself : (split == split) ≡ true
-    itself = eq-eqb split split refl
+    itself : (split.line.0 == split.line.0) ≡ true
+    itself = eq-eqb split.line.0 split.line.0 refl
 
     halved : (a b : Bool) → one_if a ≡ one_if (a && same_bit b false) + one_if (a && same_bit b true)
     halved true true = refl
@@ -158,20 +166,21 @@ split_parts rules halves steadiness split =
     halved_too false true = refl
     halved_too false false = refl
 
-    by : (steadiness a : Bool) (steady last : Bool)
-        → one_if a ≡ one_if (a && in_half steadiness false steady last) + one_if (a && in_half steadiness true steady last)
-    by true a steady last = halved_too a steady
-    by false a steady last = halved a last
+    by : (kind : SplitKind) → IsSourceKind kind → (a steady last : Bool)
+        → one_if a ≡ one_if (a && in_half kind false steady last) + one_if (a && in_half kind true steady last)
+    by LastValue may a steady last = halved a last
+    by Steadiness may a steady last = halved_too a steady
+    by FirstValue may a steady last = absurd may
 
-    parts : (steady last : Bool) → one_if (leaves_all rules halves split steady last)
-        ≡ one_if (leaves_all rules (below halves steadiness split false) split steady last)
-        + one_if (leaves_all rules (below halves steadiness split true) split steady last)
+    parts : (steady last : Bool) → one_if (leaves_all rules halves split.line.0 steady last)
+        ≡ one_if (leaves_all rules (below halves split false) split.line.0 steady last)
+        + one_if (leaves_all rules (below halves split true) split.line.0 steady last)
     parts steady last =
-        let here : Bool = leaves_all rules halves split steady last in
-        let first = leaves_more rules halves (record { source = split; steadiness = steadiness; second = false }) split steady last in
-        let second = leaves_more rules halves (record { source = split; steadiness = steadiness; second = true }) split steady last in
-        by steadiness here steady last
-        ∙ ap (λ b. one_if (here && cond b (in_half steadiness false steady last) true)
-        + one_if (here && cond b (in_half steadiness true steady last) true)) (sym itself)
-        ∙ ap (λ b. one_if b + one_if (here && cond (split == split) (in_half steadiness true steady last) true)) (sym first)
-        ∙ ap (λ b. one_if (leaves_all rules (below halves steadiness split false) split steady last) + one_if b) (sym second)
+        let here : Bool = leaves_all rules halves split.line.0 steady last in
+        let first = leaves_more rules halves (half_of split false) split.line.0 steady last in
+        let second = leaves_more rules halves (half_of split true) split.line.0 steady last in
+        by split.kind is here steady last
+        ∙ ap (λ b. one_if (here && cond b (in_half split.kind false steady last) true)
+        + one_if (here && cond b (in_half split.kind true steady last) true)) (sym itself)
+        ∙ ap (λ b. one_if b + one_if (here && cond (split.line.0 == split.line.0) (in_half split.kind true steady last) true)) (sym first)
+        ∙ ap (λ b. one_if (leaves_all rules (below halves split false) split.line.0 steady last) + one_if b) (sym second)

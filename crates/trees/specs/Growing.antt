@@ -1,20 +1,14 @@
 -- A tree of cases that is still growing: its first nodes in preorder, and the places behind them at which trees are still due (this
 -- project's own).
-use Rattle.std.specs.Prelude.{◌≡◌, ⊤, Bool, true, false, ℕ, List, [], ◌∷◌, ◌++◌}
+use Rattle.std.specs.Prelude.{◌≡◌, ⊤, List, [], ◌∷◌, ◌++◌}
 use Rattle.std.specs.List.{flat_map}
 use Rattle.pd_base.specs.Target.{Target}
 use Rattle.pd_base.specs.declared.rules.Rules.{Rules}
 use Rattle.netlist.specs.Circuit.{Circuit}
-use Rattle.state_laws.specs.declared.half.Half.{Half}
+use Rattle.state_laws.specs.declared.split.Half.{Half}
 use Rattle.trees.specs.declared.tree.Node.{Node}
-use Rattle.trees.specs.declared.tree.Node.TheVariants.{Value, Steadiness}
 use Rattle.trees.specs.Trees.{Cases, preorder}
 use Rattle.trees.specs.Spent.{IsSpentBelow}
-
--- the node of a split
-abbrev pub split_node : Bool → ℕ → Node
-split_node true source = Steadiness source
-split_node false source = Value source
 
 -- there is one tree for each place, such as a spent tree has below the halves of that place
 abbrev pub FillPlaces : Circuit → Rules → Target → List (List Half) → List Cases → Type 0

@@ -1,6 +1,7 @@
 -- The halves above a node of a tree, from the deepest up, and where a walk in preorder goes on to (this project's own).
 use Rattle.std.specs.Prelude.{◌≡◌, ◌⊎◌, true, List, [], ◌∷◌, ◌++◌, cond}
-use Rattle.state_laws.specs.declared.half.Half.{Half}
+use Rattle.state_laws.specs.declared.split.Half.{Half}
+use Rattle.state_laws.specs.Halves.{half_of}
 
 -- these halves in the order from the root down
 abbrev pub halves_of : List Half → List Half
@@ -9,7 +10,7 @@ halves_of (half ∷ above) = halves_of above ++ half ∷ []
 
 -- the other half of a first half
 abbrev pub turned : Half → Half
-turned half = record { source = half.source; steadiness = half.steadiness; second = true }
+turned half = half_of half.split true
 
 -- for each first half, from the deepest up, the halves above the tree that waits there
 abbrev pub turns : List Half → List (List Half)

@@ -13,14 +13,17 @@ use Rattle.state_sets.specs.declared.state.StateSet.{StateSet}
 use Rattle.state_sets.specs.States.{Has}
 use Rattle.state_sets.specs.Labellings.{label_at}
 use Rattle.state_sets.specs.StateAlgebra.{StateAlgebra}
-use Rattle.state_sets.specs.Starts.{IsInHalf, IsLeast}
+use Rattle.state_sets.specs.Starts.{IsLeast}
 use Rattle.state_sets.specs.Hulls.{IsNarrowingOf, HasNoEmptySet, Closes}
-use Rattle.state_laws.specs.declared.half.Half.{Half}
+use Rattle.state_laws.specs.declared.split.SplitKind.{SplitKind}
+use Rattle.state_laws.specs.declared.split.Split.{Split}
+use Rattle.state_laws.specs.declared.split.Half.{Half}
+use Rattle.state_laws.specs.Halves.{IsInHalf}
 use Rattle.state_laws.specs.Nodes.{MayBe, IsNodeHull, ClosesAtNode}
 use Rattle.trees.specs.declared.tree.Node.{Node}
 use Rattle.trees.specs.declared.tree.Node.TheVariants.{Waiting}
-use Rattle.trees.specs.Trees.{Cases, preorder, split_count}
-use Rattle.trees.specs.Trees.Cases.{closed, waiting, by_value, by_steadiness}
+use Rattle.trees.specs.Trees.{Cases, preorder, split_count, IsSourceKind}
+use Rattle.trees.specs.Trees.Cases.{closed, waiting, split_at}
 use Rattle.trees.specs.Algebras.{algebra_of}
 use Rattle.trees.specs.Refutations.{below}
 
@@ -44,33 +47,28 @@ pub record IsOpen (c : Circuit) (rules : Rules) (target : Target) (halves : List
   pub trial : Closes (algebra_of rules) c (IsNarrowingOf c (links_of rules) target.kind target.path.steps) (MayTry c rules target halves hull)
 
 -- some state of the set is in this half
-abbrev pub HasInHalf : StateAlgebra → StateSet → Bool → Bool → Type 0
-HasInHalf a set steadiness second =
-    (state : State) × Has a.count set state × IsInHalf a steadiness second state
+abbrev pub HasInHalf : StateAlgebra → StateSet → SplitKind → Bool → Type 0
+HasInHalf a set kind second = (state : State) × Has a.count set state × IsInHalf a kind second state
 
--- a split is due: its node does not close, its trial does, and the split is on a source of the support that has a state of each
--- half in the hull
-pub record IsDue (c : Circuit) (rules : Rules) (target : Target) (halves : List Half)
-    (steadiness : Bool) (source : ℕ) : Type 0 where
+-- a split is due: its node does not close, its trial does, and the split is on a source of the support, by its last value or its
+-- steadiness, and has a state of each half in the hull
+pub record IsDue (c : Circuit) (rules : Rules) (target : Target) (halves : List Half) (split : Split) : Type 0 where
   pub hull : List StateSet
   pub is_open : IsOpen c rules target halves hull
-  pub in_support : IsInSupport c rules target.path source
-  pub in_first : HasInHalf (algebra_of rules) (label_at hull source) steadiness false
-  pub in_second : HasInHalf (algebra_of rules) (label_at hull source) steadiness true
+  pub in_support : IsInSupport c rules target.path split.line.0
+  pub kind : IsSourceKind split.kind
+  pub in_first : HasInHalf (algebra_of rules) (label_at hull split.line.0) split.kind false
+  pub in_second : HasInHalf (algebra_of rules) (label_at hull split.line.0) split.kind true
 
 -- the cases are such, below these halves: each closed leaf's node closes, each open leaf's does not and its trial does, and each
 -- split is due
 abbrev pub IsSpentBelow : Circuit → Rules → Target → List Half → Cases → Type 0
 IsSpentBelow c rules target halves closed = ClosesAtNode (algebra_of rules) c rules target halves
 IsSpentBelow c rules target halves waiting = (hull : List StateSet) × IsOpen c rules target halves hull
-IsSpentBelow c rules target halves (by_value source first second) =
-    IsDue c rules target halves false source
-    × IsSpentBelow c rules target (below halves false source false) first
-    × IsSpentBelow c rules target (below halves false source true) second
-IsSpentBelow c rules target halves (by_steadiness source first second) =
-    IsDue c rules target halves true source
-    × IsSpentBelow c rules target (below halves true source false) first
-    × IsSpentBelow c rules target (below halves true source true) second
+IsSpentBelow c rules target halves (split_at split first second) =
+    IsDue c rules target halves split
+    × IsSpentBelow c rules target (below halves split false) first
+    × IsSpentBelow c rules target (below halves split true) second
 
 -- the nodes are those of a tree that spent this budget on a path: it has exactly so many splits, and an open leaf
 pub record IsSpent (c : Circuit) (rules : Rules) (target : Target) (budget : ℕ) (nodes : List Node) : Type 0 where

@@ -12,11 +12,11 @@ use Rattle.state_sets.specs.declared.state.StateSet.{StateSet}
 use Rattle.state_sets.specs.LineStates.{state_under}
 use Rattle.state_sets.specs.Labellings.{label_at}
 use Rattle.state_sets.specs.Starts.{IsLeast}
-use Rattle.state_laws.specs.declared.half.Half.{Half}
+use Rattle.state_laws.specs.declared.split.Half.{Half}
 use Rattle.state_laws.specs.Nodes.{IsNodeHull}
 use Rattle.trees.specs.declared.tree.Node.{Node}
 use Rattle.trees.specs.Trees.{Cases, preorder}
-use Rattle.trees.specs.Trees.Cases.{closed, waiting, by_value, by_steadiness}
+use Rattle.trees.specs.Trees.Cases.{closed, waiting, split_at}
 use Rattle.trees.specs.Algebras.{algebra_of}
 use Rattle.trees.specs.Refutations.{below}
 use Rattle.trees.specs.Spent.{IsInSupport}
@@ -46,14 +46,10 @@ pub record LeastPairsFailAt (c : Circuit) (rules : Rules) (target : Target) (hal
 abbrev pub LeastPairsFailBelow : Circuit → Rules → Target → List Half → Cases → Type 0
 LeastPairsFailBelow c rules target halves closed = ⊤
 LeastPairsFailBelow c rules target halves waiting = LeastPairsFailAt c rules target halves
-LeastPairsFailBelow c rules target halves (by_value source first second) =
+LeastPairsFailBelow c rules target halves (split_at split first second) =
     LeastPairsFailAt c rules target halves
-    × LeastPairsFailBelow c rules target (below halves false source false) first
-    × LeastPairsFailBelow c rules target (below halves false source true) second
-LeastPairsFailBelow c rules target halves (by_steadiness source first second) =
-    LeastPairsFailAt c rules target halves
-    × LeastPairsFailBelow c rules target (below halves true source false) first
-    × LeastPairsFailBelow c rules target (below halves true source true) second
+    × LeastPairsFailBelow c rules target (below halves split false) first
+    × LeastPairsFailBelow c rules target (below halves split true) second
 
 -- it is so of the tree with these nodes
 abbrev pub ShowsFailures : Circuit → Rules → Target → List Node → Type 0

@@ -2,6 +2,7 @@
 ghost use Rattle.std.specs.Prelude.{◌≡◌, ◌+◌, ◌-◌, if◌then◌else◌, ◌<◌, ◌^◌, length, vec_len, IfSome, IfNone, IsTrue, ◌↔◌};
 ghost use Rattle.trees.specs.Trees.{IsTree, split_count, is_split};
 
+use state_laws::Split;
 use std::marker::Model;
 
 /// One node of a tree.
@@ -11,10 +12,8 @@ pub enum Node {
     Closed,
     /// A leaf that was left open.
     Waiting,
-    /// A split on the final value of the source of this number: 0 first.
-    Value(u32),
-    /// A split on the steadiness of the source of this number: steady first.
-    Steadiness(u32),
+    /// A split of the cases at a line.
+    Split(Split),
 }
 
 /// One whole tree of case splits, of fewer than 2^31 nodes.
@@ -91,7 +90,7 @@ fn places_after(places: u32, node: &Node) -> u32
 {
     match node {
         Node::Closed | Node::Waiting => places - 1,
-        Node::Value(_) | Node::Steadiness(_) => places + 1,
+        Node::Split(_) => places + 1,
     }
 }
 
@@ -102,7 +101,7 @@ fn count_splits(nodes: &[Node]) -> u32
 {
     let mut count = 0;
     for node in nodes {
-        if matches!(node, Node::Value(_) | Node::Steadiness(_)) {
+        if matches!(node, Node::Split(_)) {
             count += 1;
         }
     }
