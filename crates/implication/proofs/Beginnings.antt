@@ -37,7 +37,7 @@ use Rattle.implication.proofs.Starting.{free_at_start}
 pub kept_new : (a : StateAlgebra) (c : Circuit) (rules : Rules) (ends : Option ToldEnds) (list : List Assumption) (kept : Kept)
     (room befores_room : ℕ) → IsCircuit c → AreEnough a c (links_of rules) ends kept.board.inside kept.board.links → IsIdleBoard a c rules kept.idle kept.board
     → AreLinksOf c (links_of rules)
-    → list ≡ [] → kept.befores ≡ [] → kept.left ≡ replicate (source_count c) (all_states a.count)
+    → list ≡ [] → kept.befores ≡ [] → kept.left ≡ replicate (line_count c) (all_states a.count)
     → kept.steps ≡ record { kind = Robust; gates = gate_count c; room = greatest_level c; steps = [] }
     → most_assumptions a.count c ≤ room → most_assumptions a.count c ≤ befores_room
     → KeepsStanding a (record {
@@ -61,9 +61,9 @@ kept_new a c rules ends list kept room befores_room circuit cone idle links noth
     none_before = none_before;
     no_step = ap (λ (s : Steps). s.steps) stepped;
     left = record {
-      one_each = ap length all_left ∙ length-replicate (source_count c) (all_states a.count);
-      each = λ source within. ap (λ (sets : List StateSet). label_at sets source) all_left
-          ∙ get_or-replicate (source_count c) source (all_states a.count) no_states within;
+      one_each = ap length all_left ∙ length-replicate (line_count c) (all_states a.count);
+      each = λ line within. ap (λ (sets : List StateSet). label_at sets line) all_left
+          ∙ get_or-replicate (line_count c) line (all_states a.count) no_states within;
     };
     idling = idle;
   };
@@ -177,10 +177,10 @@ module _ (a : StateAlgebra) {standing : Standing} {kept : Kept} {room befores_ro
 module _ (a : StateAlgebra) (c : Circuit) (rules : Rules) (ends : Option ToldEnds) (list : List Assumption) (nothing : list ≡ [])
     (conflict : Option LineId) (kept : Kept) where
   idle_parts : (beginning : Option Beginning) → StandsFrom a c rules ends beginning list conflict kept
-      → (kept.befores ≡ []) × (kept.steps.steps ≡ []) × AreLeft a.count (source_count c) [] kept.left × StandsBy a c rules kept.idle kept.board
+      → (kept.befores ≡ []) × (kept.steps.steps ≡ []) × AreLeft a.count (line_count c) [] kept.left × StandsBy a c rules kept.idle kept.board
   idle_parts None stands = (stands.none_before, stands.no_step, stands.left, stands.idling.stands)
   idle_parts (Some begun) stands =
-      let P : List Assumption → Type 0 = λ xs. AreLeft a.count (source_count c) xs kept.left in (
+      let P : List Assumption → Type 0 = λ xs. AreLeft a.count (line_count c) xs kept.left in (
         no_more kept.befores (stands.stood.one_each ∙ ap length nothing),
         stands.entered ∙ ap entered_pins nothing,
         subst P nothing stands.left,

@@ -27,7 +27,7 @@ use Rattle.implication.specs.Kept.{HasStepRoom, CanStep}
 pub entered_append : (xs ys : List Assumption) → entered_pins (xs ++ ys) ≡ entered_pins xs ++ entered_pins ys
 entered_append [] ys = refl
 entered_append (Entered pin ∷ xs) ys = ap (λ rest. pin ∷ rest) (entered_append xs ys)
-entered_append (Assumed source set ∷ xs) ys = entered_append xs ys
+entered_append (Assumed own set ∷ xs) ys = entered_append xs ys
 
 -- the pins of the first entries are the first pins
 pub entered_taken : (list : List Assumption) (mark : ℕ)
@@ -37,7 +37,7 @@ entered_taken [] (suc mark) = (0, refl)
 entered_taken (entry ∷ list) zero = (0, refl)
 entered_taken (Entered pin ∷ list) (suc mark) =
     let rest = entered_taken list mark in (suc rest.0, ap (λ pins. pin ∷ pins) rest.1)
-entered_taken (Assumed source set ∷ list) (suc mark) = entered_taken list mark
+entered_taken (Assumed own set ∷ list) (suc mark) = entered_taken list mark
 
 -- the last of a list of two or more is that of the rest
 last_behind : (step next : PinRef) (steps : List PinRef) (else_ : PinRef)
@@ -96,7 +96,7 @@ module _ (c : Circuit) where
   connects_taken line (suc mark) [] connects = tt
   connects_taken line (suc mark) (Entered pin ∷ list) connects =
       (connects.0, connects_taken (gate_line c pin.gate.0) mark list connects.1)
-  connects_taken line (suc mark) (Assumed source set ∷ list) connects = connects_taken line mark list connects
+  connects_taken line (suc mark) (Assumed own set ∷ list) connects = connects_taken line mark list connects
 
   module _ (circuit : IsCircuit c) where
     -- no step before goes through a gate whose pin is on the last line
@@ -148,7 +148,7 @@ module _ (c : Circuit) (circuit : IsCircuit c) (line : ℕ) (within : line < lin
   -- so it can be entered behind them
   pub can_step : (steps : Steps) (entry : Assumption) → get_or list place else_ ≡ entry → HasStepRoom c steps
       → steps.steps ≡ entered_pins (take place list) → CanStep steps entry
-  can_step steps (Assumed source set) is room done = tt
+  can_step steps (Assumed own set) is room done = tt
   can_step steps (Entered pin) is room done =
       let on = goes_on pin is in let before = connects_taken c line place list connects in record {
         gate = omega (arith, on.in_circuit, room.gates);

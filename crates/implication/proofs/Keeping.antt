@@ -8,7 +8,7 @@ use Rattle.pd_base.specs.declared.ids.LineId.{LineId}
 use Rattle.pd_base.specs.declared.ids.PinRef.{PinRef}
 use Rattle.pd_base.specs.declared.fault.Kind.{Kind}
 use Rattle.pd_base.specs.declared.rules.Rules.{Rules}
-use Rattle.netlist.specs.Circuit.{Circuit, source_count}
+use Rattle.netlist.specs.Circuit.{Circuit, line_count}
 use Rattle.netlist.specs.Pins.{IsPin}
 use Rattle.state_sets.specs.declared.state.StateSet.{StateSet}
 use Rattle.state_sets.specs.States.{no_states}
@@ -33,60 +33,60 @@ use Rattle.implication.specs.declared.assumption.Assumption.TheVariants.{Entered
 use Rattle.implication.specs.declared.before.Before.{Before}
 use Rattle.implication.specs.Assumptions.{entered_pins, left_of}
 use Rattle.implication.specs.Standing.{ToldEnds, Standing}
-use Rattle.implication.specs.Kept.{Outset, Kept, AreAssumptions, AreToldEntries, IsListFrom, TakesFrom, DoShrink, IsAboutSource, IsLeftBefore, IsNarrowedMore, IsOpenHull, AreLabelsUnder, AreLeft, Stood, StandsOpen, StandsFrom, HasStepRoom, CanStep, KeepsStanding, left_with, left_without, steps_without}
+use Rattle.implication.specs.Kept.{Outset, Kept, AreAssumptions, AreToldEntries, IsListFrom, TakesFrom, DoShrink, IsAboutLine, IsLeftBefore, IsNarrowedMore, IsOpenHull, AreLabelsUnder, AreLeft, Stood, StandsOpen, StandsFrom, HasStepRoom, CanStep, KeepsStanding, left_with, left_without, steps_without}
 use Rattle.implication.proofs.Entering.{pins_of, entered_append, entered_on, can_step}
 use Rattle.implication.proofs.Linking.{same_cone}
 use Rattle.implication.proofs.Lists.{list_taken, list_fits, told_taken}
 use Rattle.implication.proofs.Labels.{settled_more, all_back}
-use Rattle.implication.proofs.Shrinking.{about_source, shrink_last, left_of_more}
+use Rattle.implication.proofs.Shrinking.{about_line, shrink_last, left_of_more}
 use Rattle.implication.proofs.History.{stood_more, stood_back, open_again, stood_last}
 use Rattle.implication.proofs.Idling.{stands_on, stands_back}
 
--- what is left of the sources, with an entry more and without the last one
-module _ (count sources : ℕ) where
-  pub left_more : (list : List Assumption) (left : List StateSet) → AreLeft count sources list left → (entry : Assumption)
-      → TakesFrom count sources list entry → AreLeft count sources (list ++ entry ∷ []) (left_with entry left)
+-- what is left of the lines, with an entry more and without the last one
+module _ (count lines : ℕ) where
+  pub left_more : (list : List Assumption) (left : List StateSet) → AreLeft count lines list left → (entry : Assumption)
+      → TakesFrom count lines list entry → AreLeft count lines (list ++ entry ∷ []) (left_with entry left)
   left_more list left are (Entered pin) takes = record {
     one_each = are.one_each;
-    each = λ source within. are.each source within ∙ sym (left_of_more count (record { 0 = source }) list (Entered pin));
+    each = λ line within. are.each line within ∙ sym (left_of_more count (record { 0 = line }) list (Entered pin));
   }
   left_more list left are (Assumed own set_left) takes = record {
     one_each = length-set left own.0 set_left ∙ are.one_each;
-    each = λ source within. ⊎_elim
-        (λ (here : own.0 ≡ source).
+    each = λ line within. ⊎_elim
+        (λ (here : own.0 ≡ line).
         let P : ℕ → Type 0 = λ n. label_at (set left own.0 set_left) n ≡ left_of count (record { 0 = n }) (list ++ Assumed own set_left ∷ []) in
         let e : (own.0 == own.0) ≡ true = eq-eqb own.0 own.0 refl in
         let now : left_of count own (list ++ Assumed own set_left ∷ []) ≡ set_left =
         left_of_more count own list (Assumed own set_left) ∙ (rw e takes.inside) in
         subst P here (get_or-set_same left own.0 set_left no_states (omega (arith, takes.in_circuit, are.one_each)) ∙ sym now))
-        (λ (away : own.0 ≢ source).
-        let e : (own.0 == source) ≡ false = ne_eqb own.0 source away in
-        let now : left_of count (record { 0 = source }) (list ++ Assumed own set_left ∷ []) ≡ left_of count (record { 0 = source }) list =
-        left_of_more count (record { 0 = source }) list (Assumed own set_left) ∙ (rw e refl) in
-        get_or-set_other left own.0 source set_left no_states (λ e. away (sym e)) ∙ are.each source within ∙ sym now)
-        (cases_eq own.0 source);
+        (λ (away : own.0 ≢ line).
+        let e : (own.0 == line) ≡ false = ne_eqb own.0 line away in
+        let now : left_of count (record { 0 = line }) (list ++ Assumed own set_left ∷ []) ≡ left_of count (record { 0 = line }) list =
+        left_of_more count (record { 0 = line }) list (Assumed own set_left) ∙ (rw e refl) in
+        get_or-set_other left own.0 line set_left no_states (λ e. away (sym e)) ∙ are.each line within ∙ sym now)
+        (cases_eq own.0 line);
   }
 
-  pub left_less : (list front : List Assumption) (left : List StateSet) → AreLeft count sources list left → (entry : Assumption)
-      → (before : StateSet) → list ≡ front ++ entry ∷ [] → IsAboutSource sources entry → IsLeftBefore count front entry before
-      → AreLeft count sources front (left_without entry before left)
+  pub left_less : (list front : List Assumption) (left : List StateSet) → AreLeft count lines list left → (entry : Assumption)
+      → (before : StateSet) → list ≡ front ++ entry ∷ [] → IsAboutLine lines entry → IsLeftBefore count front entry before
+      → AreLeft count lines front (left_without entry before left)
   left_less list front left are (Entered pin) before is about was = record {
     one_each = are.one_each;
-    each = λ source within. are.each source within ∙ ap (left_of count (record { 0 = source })) is
-        ∙ left_of_more count (record { 0 = source }) front (Entered pin);
+    each = λ line within. are.each line within ∙ ap (left_of count (record { 0 = line })) is
+        ∙ left_of_more count (record { 0 = line }) front (Entered pin);
   }
   left_less list front left are (Assumed own set_left) before is about was = record {
     one_each = length-set left own.0 before ∙ are.one_each;
-    each = λ source within. ⊎_elim
-        (λ (here : own.0 ≡ source).
+    each = λ line within. ⊎_elim
+        (λ (here : own.0 ≡ line).
         let P : ℕ → Type 0 = λ n. label_at (set left own.0 before) n ≡ left_of count (record { 0 = n }) front in
         subst P here (get_or-set_same left own.0 before no_states (omega (arith, about, are.one_each)) ∙ was))
-        (λ (away : own.0 ≢ source).
-        let e : (own.0 == source) ≡ false = ne_eqb own.0 source away in
-        let now : left_of count (record { 0 = source }) (front ++ Assumed own set_left ∷ []) ≡ left_of count (record { 0 = source }) front =
-        left_of_more count (record { 0 = source }) front (Assumed own set_left) ∙ (rw e refl) in
-        get_or-set_other left own.0 source before no_states (λ e. away (sym e)) ∙ are.each source within ∙ ap (left_of count (record { 0 = source })) is ∙ now)
-        (cases_eq own.0 source);
+        (λ (away : own.0 ≢ line).
+        let e : (own.0 == line) ≡ false = ne_eqb own.0 line away in
+        let now : left_of count (record { 0 = line }) (front ++ Assumed own set_left ∷ []) ≡ left_of count (record { 0 = line }) front =
+        left_of_more count (record { 0 = line }) front (Assumed own set_left) ∙ (rw e refl) in
+        get_or-set_other left own.0 line before no_states (λ e. away (sym e)) ∙ are.each line within ∙ ap (left_of count (record { 0 = line })) is ∙ now)
+        (cases_eq own.0 line);
   }
 
 -- the conditions without the step of the last entry
@@ -101,15 +101,15 @@ module _ (steps : Steps) (front : List Assumption) where
       front_of xs x =
           let e : length (xs ++ x ∷ []) - 1 ≡ length xs = omega (arith, length_push xs x) in
           ap (λ (n : ℕ). take n (xs ++ x ∷ [])) e ∙ take-append_seam xs (x ∷ [])
-  steps_back (Assumed source set_left) is = is ∙ entered_append front (Assumed source set_left ∷ []) ∙ append-nil (entered_pins front)
+  steps_back (Assumed line set_left) is = is ∙ entered_append front (Assumed line set_left ∷ []) ∙ append-nil (entered_pins front)
 
   pub kind_back : (entry : Assumption) → (steps_without entry steps).kind ≡ steps.kind
   kind_back (Entered pin) = refl
-  kind_back (Assumed source set_left) = refl
+  kind_back (Assumed line set_left) = refl
 
   pub room_back : (c : Circuit) (entry : Assumption) → HasStepRoom c steps → HasStepRoom c (steps_without entry steps)
   room_back c (Entered pin) room = record { gates = room.gates; levels = room.levels }
-  room_back c (Assumed source set_left) room = room
+  room_back c (Assumed line set_left) room = room
 
 -- a board that follows another one has as many lines
 pub of_circuit : (c : Circuit) (old new : OnBoard) → IsBoardOf c old → Follows old new → new.inside ≡ old.inside → new.links ≡ old.links → IsBoardOf c new
@@ -227,21 +227,21 @@ module _ (a : StateAlgebra) {standing : Standing} {kept : Kept} {room befores_ro
             stands.stood.one_each,
           )
 
-      -- its pin is one of the circuit, or its source
+      -- its pin is one of the circuit, or its line
       pub pins_fit : All (IsPin standing.net) (entered_pins (entry ∷ []))
       pins_fit =
           all_back (IsPin standing.net) (entered_pins list) (entered_pins (entry ∷ []))
           (subst (All (IsPin standing.net)) (entered_append list (entry ∷ []))
           (pins_of standing.net begun.source.0 (entered_pins (list ++ entry ∷ [])) fit.0.connects))
 
-      takes : TakesFrom a.count (source_count standing.net) list entry
-      takes = shrink_last a.count (source_count standing.net) [] list entry fit.0.shrink
+      takes : TakesFrom a.count (line_count standing.net) list entry
+      takes = shrink_last a.count (line_count standing.net) [] list entry fit.0.shrink
 
-      pub source_fits : IsAboutSource (source_count standing.net) entry
-      source_fits = about_source a.count (source_count standing.net) list entry takes
+      pub line_fits : IsAboutLine (line_count standing.net) entry
+      line_fits = about_line a.count (line_count standing.net) list entry takes
 
-      pub left_fits : IsAboutSource (length kept.left) entry
-      left_fits = let P : ℕ → Type 0 = λ n. IsAboutSource n entry in subst P (sym stands.left.one_each) source_fits
+      pub left_fits : IsAboutLine (length kept.left) entry
+      left_fits = let P : ℕ → Type 0 = λ n. IsAboutLine n entry in subst P (sym stands.left.one_each) line_fits
 
       -- and its step can be made
       pub step_fits : CanStep kept.steps entry
@@ -286,7 +286,7 @@ module _ (a : StateAlgebra) {standing : Standing} {kept : Kept} {room befores_ro
           kind = kind_now;
           entered = steps_now;
           stood = stood_more a from kept.board board follows list kept.befores entry was marked stands.stood open_now left;
-          left = left_more a.count (source_count standing.net) list kept.left stands.left entry takes;
+          left = left_more a.count (line_count standing.net) list kept.left stands.left entry takes;
           answer = settled_more a from list entry kept.board.labels narrowed_here.first open_now narrowed_here.cut steps.kind steps.steps
               kind_now steps_now board.labels answer
               narrowed_here.settled;
@@ -330,16 +330,16 @@ module _ (a : StateAlgebra) {standing : Standing} {kept : Kept} {room befores_ro
         let P : List Assumption → Type 0 = λ x. Stood a from kept.board x (befores ++ was ∷ []) in
         let Q : List Before → Type 0 = λ x. Stood a from kept.board list x in subst P lists (subst Q before stands.stood)
 
-    takes_here : TakesFrom a.count (source_count standing.net) front entry
+    takes_here : TakesFrom a.count (line_count standing.net) front entry
     takes_here =
-        shrink_last a.count (source_count standing.net) [] front entry
-        (let P : List Assumption → Type 0 = λ x. DoShrink a.count (source_count standing.net) [] x in subst P lists stands.list.shrink)
+        shrink_last a.count (line_count standing.net) [] front entry
+        (let P : List Assumption → Type 0 = λ x. DoShrink a.count (line_count standing.net) [] x in subst P lists stands.list.shrink)
 
-    about_here : IsAboutSource (source_count standing.net) entry
-    about_here = about_source a.count (source_count standing.net) front entry takes_here
+    about_here : IsAboutLine (line_count standing.net) entry
+    about_here = about_line a.count (line_count standing.net) front entry takes_here
 
-    pub left_of_source : IsAboutSource (length kept.left) entry
-    left_of_source = let P : ℕ → Type 0 = λ n. IsAboutSource n entry in subst P (sym stands.left.one_each) about_here
+    pub left_of_line : IsAboutLine (length kept.left) entry
+    left_of_line = let P : ℕ → Type 0 = λ n. IsAboutLine n entry in subst P (sym stands.left.one_each) about_here
 
     taken : take (length front) list ≡ front
     taken = ap (take (length front)) lists ∙ take-append_seam front (entry ∷ [])
@@ -362,9 +362,9 @@ module _ (a : StateAlgebra) {standing : Standing} {kept : Kept} {room befores_ro
         kind = ap (λ (s : Steps). s.kind) steps_is ∙ kind_back kept.steps front entry ∙ stands.kind;
         entered = ap (λ (s : Steps). s.steps) steps_is ∙ steps_back kept.steps front entry (stands.entered ∙ ap entered_pins lists);
         stood = stood_back a from kept.board board front befores entry was stood_here notes labels;
-        left = let P : List StateSet → Type 0 = λ l. AreLeft a.count (source_count standing.net) front l in
+        left = let P : List StateSet → Type 0 = λ l. AreLeft a.count (line_count standing.net) front l in
             subst P (sym left_is)
-            (left_less a.count (source_count standing.net) list front kept.left stands.left entry was.left lists about_here
+            (left_less a.count (line_count standing.net) list front kept.left stands.left entry was.left lists about_here
             (stood_last a from kept.board board front befores entry was stood_here notes labels).left);
         answer = open_again a from kept.board board front befores entry was stood_here notes labels;
         idling = stands_back a standing.net standing.rules kept.idle kept.board board was.changes stands.idling notes labels inside links;
@@ -409,7 +409,7 @@ module _ (a : StateAlgebra) {standing : Standing} {kept : Kept} {room befores_ro
   pub add_befores_room : length kept.befores < befores_room
   add_befores_room = befores_room_for_one a keeps begun_here.0 begun_here.1 free_here entry fits_here
 
-  pub add_left : IsAboutSource (length kept.left) entry
+  pub add_left : IsAboutLine (length kept.left) entry
   add_left = left_fits a keeps begun_here.0 begun_here.1 free_here entry fits_here
 
   pub add_step : CanStep kept.steps entry
@@ -431,10 +431,10 @@ module _ (a : StateAlgebra) {standing : Standing} {kept : Kept} {room befores_ro
         let P : Circuit → Type 0 = λ x. All (IsPin x) (entered_pins (entry ∷ [])) in
         subst P (sym circuits) (pins_fit a keeps begun_here.0 begun_here.1 free_here entry fits_here)
 
-    pub add_source : IsAboutSource (source_count seen) entry
-    add_source =
-        let P : Circuit → Type 0 = λ x. IsAboutSource (source_count x) entry in
-        subst P (sym circuits) (source_fits a keeps begun_here.0 begun_here.1 free_here entry fits_here)
+    pub add_line : IsAboutLine (line_count seen) entry
+    add_line =
+        let P : Circuit → Type 0 = λ x. IsAboutLine (line_count x) entry in
+        subst P (sym circuits) (line_fits a keeps begun_here.0 begun_here.1 free_here entry fits_here)
 
     module _ (was : Before) (marked : was.changes ≡ length kept.board.notes) (left : IsLeftBefore a.count now.assumptions entry was.left)
         (board : OnBoard) (inside : board.inside ≡ kept.board.inside) (links : board.links ≡ kept.board.links)
@@ -470,8 +470,8 @@ module _ (a : StateAlgebra) {standing : Standing} {kept : Kept} {room befores_ro
         has_begun a standing.net standing.rules standing.ends standing.beginning standing.assumptions standing.conflict kept keeps.stands
         (let e = ap length lists in let f = length_push front entry in omega (arith, e, f))
 
-    pub back_left : IsAboutSource (length kept.left) entry
-    back_left = left_of_source a keeps begun_once.0 begun_once.1 front entry lists befores was before
+    pub back_left : IsAboutLine (length kept.left) entry
+    back_left = left_of_line a keeps begun_once.0 begun_once.1 front entry lists befores was before
 
     module _ (board : OnBoard) (labels : board.labels ≡ undone (drop was.changes kept.board.notes) kept.board.labels)
         (notes : board.notes ≡ take was.changes kept.board.notes) (at_rest : board.waiting ≡ []) (inside : board.inside ≡ kept.board.inside)

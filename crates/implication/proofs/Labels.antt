@@ -40,18 +40,18 @@ module _ (count : ℕ) where
   cut_by_entered pin labels line state =
       ((λ has. (has, All-cons (IsLetBy count line state) (Entered pin) [] tt (All-nil (IsLetBy count line state)))), (λ both. both.0))
 
-  -- a set assumed of a source cuts its label
-  pub cut_by_assumed : (source : LineId) (set_assumed : StateSet) (old : List StateSet) → source.0 < length old
-      → AreCutBy count (Assumed source set_assumed ∷ []) old (set old source.0 (both_sets (label_at old source.0) set_assumed))
-  cut_by_assumed source to old within line state =
-      let cut = both_sets (label_at old source.0) to in
+  -- a set assumed of a line cuts its label
+  pub cut_by_assumed : (own : LineId) (set_assumed : StateSet) (old : List StateSet) → own.0 < length old
+      → AreCutBy count (Assumed own set_assumed ∷ []) old (set old own.0 (both_sets (label_at old own.0) set_assumed))
+  cut_by_assumed own to old within line state =
+      let cut = both_sets (label_at old own.0) to in
       let Let = IsLetBy count line state in (
         (λ has. (
-          had_before_cut old source.0 within cut count to refl line state has,
-          All-cons Let (Assumed source to) [] (λ here. kept_by_cut old source.0 within cut count to refl line state has here) (All-nil Let),
+          had_before_cut old own.0 within cut count to refl line state has,
+          All-cons Let (Assumed own to) [] (λ here. kept_by_cut old own.0 within cut count to refl line state has here) (All-nil Let),
         )),
-        (λ both. has_after_cut old source.0 within cut count to refl line state both.0
-            (all_head Let (Assumed source to) [] both.1)),
+        (λ both. has_after_cut old own.0 within cut count to refl line state both.0
+            (all_head Let (Assumed own to) [] both.1)),
       )
 
 module _ (a : StateAlgebra) (from : Outset) where

@@ -37,7 +37,7 @@ module _ (count : ℕ) (c : Circuit) (begun : Beginning) where
     list_taken mark = record {
       source = are.source;
       connects = connects_taken c begun.source.0 mark list are.connects;
-      shrink = shrink_taken count (source_count c) mark [] list are.shrink;
+      shrink = shrink_taken count (line_count c) mark [] list are.shrink;
     }
 
     -- a pin on the last line more
@@ -48,20 +48,20 @@ module _ (count : ℕ) (c : Circuit) (begun : Beginning) where
       connects = let P : List PinRef → Type 0 = λ steps. Connects c begun.source.0 steps in
           subst P (sym (entered_append list (Entered pin ∷ [])))
           (connects_more c begun.source.0 (entered_pins list) pin are.connects on);
-      shrink = shrink_more count (source_count c) [] list (Entered pin) are.shrink tt;
+      shrink = shrink_more count (line_count c) [] list (Entered pin) are.shrink tt;
     }
 
-    -- a set more, which takes some state of its source away
-    pub list_with_set : (source : LineId) (to cut : StateSet) → source.0 < source_count c
-        → cut.0 ≡ bit_and (left_of count source list).0 to.0 → (left_of count source list).0 ≢ cut.0
-        → AreAssumptions count c begun (list ++ Assumed source cut ∷ [])
-    list_with_set source to cut within is fewer = record {
+    -- a set more, which takes some state of its line away
+    pub list_with_set : (line : LineId) (to cut : StateSet) → line.0 < line_count c
+        → cut.0 ≡ bit_and (left_of count line list).0 to.0 → (left_of count line list).0 ≢ cut.0
+        → AreAssumptions count c begun (list ++ Assumed line cut ∷ [])
+    list_with_set line to cut within is fewer = record {
       source = are.source;
       connects = let P : List PinRef → Type 0 = λ steps. Connects c begun.source.0 steps in
-          subst P (sym (entered_append list (Assumed source cut ∷ []) ∙ append-nil (entered_pins list))) are.connects;
-      shrink = shrink_more count (source_count c) [] list (Assumed source cut) are.shrink (record {
+          subst P (sym (entered_append list (Assumed line cut ∷ []) ∙ append-nil (entered_pins list))) are.connects;
+      shrink = shrink_more count (line_count c) [] list (Assumed line cut) are.shrink (record {
         in_circuit = within;
-        inside = let left = left_of count source list in
+        inside = let left = left_of count line list in
             let e : bit_and left.0 cut.0 ≡ cut.0 =
             ap (bit_and left.0) is ∙ sym (and_assoc to.0 left.0 left.0) ∙ ap (λ n. bit_and n to.0) (and_self left.0) ∙ sym is in
             ap set_of e;
@@ -77,8 +77,8 @@ module _ (count : ℕ) (c : Circuit) (begun : Beginning) where
           arith,
           entries_counted list,
           steps_within_levels c circuit begun.source.0 (entered_pins list) within are.connects,
-          sets_within_weight count (source_count c) [] list are.shrink,
-          weight_most count (source_count c) [],
+          sets_within_weight count (line_count c) [] list are.shrink,
+          weight_most count (line_count c) [],
         )
 
 module _ (c : Circuit) (links : LinkList) (ends : Option ToldEnds) where
@@ -100,7 +100,7 @@ module _ (c : Circuit) (links : LinkList) (ends : Option ToldEnds) where
   told_pins (Entered pin ∷ list) told =
       All-cons IsToldPin pin (entered_pins list) (All-head (IsToldEntry c links ends) (Entered pin) list told)
       (told_pins list (All-tail (IsToldEntry c links ends) (Entered pin) list told))
-  told_pins (Assumed source set ∷ list) told = told_pins list (All-tail (IsToldEntry c links ends) (Assumed source set) list told)
+  told_pins (Assumed line set ∷ list) told = told_pins list (All-tail (IsToldEntry c links ends) (Assumed line set) list told)
 
   -- so is the last line of a prefix whose gates are told
   told_after : (line : ℕ) (steps : List PinRef) → IsToldBy c links ends line → All IsToldPin steps → IsToldBy c links ends (line_after c line steps)

@@ -7,7 +7,7 @@ use Rattle.std.proofs.lemmas.Bool.{cases_eq}
 use Rattle.std.proofs.lemmas.List.{get_or-set_other}
 use Rattle.pd_base.specs.declared.ids.LineId.{LineId}
 use Rattle.pd_base.specs.declared.ids.PinRef.{PinRef}
-use Rattle.netlist.specs.Circuit.{Circuit, line_count, source_count}
+use Rattle.netlist.specs.Circuit.{Circuit, line_count}
 use Rattle.state_sets.specs.declared.state.StateSet.{StateSet}
 use Rattle.state_sets.specs.States.{Has, both_sets, no_states}
 use Rattle.state_sets.specs.StateAlgebra.{StateAlgebra}
@@ -47,44 +47,44 @@ module _ (a : StateAlgebra) (c : Circuit) (old : OnBoard) (steps : Steps) (ready
         awake = awake_entered a c steps.kind steps.steps pin old new same stays waits ready.awake;
       })
 
-  module _ (source : LineId) (to : StateSet) (within : source.0 < source_count c) (cut : OnBoard)
-      (is : IsCutTo a.count c None source.0 to old cut) where
-    in_labels : source.0 < length old.labels
+  module _ (own : LineId) (to : StateSet) (within : own.0 < line_count c) (cut : OnBoard)
+      (is : IsCutTo a.count c None own.0 to old cut) where
+    in_labels : own.0 < length old.labels
     in_labels = let e = ready.of.lines in omega (arith, e, within)
 
-    cut_labels : cut.labels ≡ set old.labels source.0 (both_sets (label_at old.labels source.0) to)
+    cut_labels : cut.labels ≡ set old.labels own.0 (both_sets (label_at old.labels own.0) to)
     cut_labels = is.labels
 
     -- the labels are cut by the assumption
-    cuts : AreCutBy a.count (Assumed source to ∷ []) old.labels cut.labels
+    cuts : AreCutBy a.count (Assumed own to ∷ []) old.labels cut.labels
     cuts =
-        let P : List StateSet → Type 0 = λ labels. AreCutBy a.count (Assumed source to ∷ []) old.labels labels in
-        subst P (sym cut_labels) (cut_by_assumed a.count source to old.labels in_labels)
+        let P : List StateSet → Type 0 = λ labels. AreCutBy a.count (Assumed own to ∷ []) old.labels labels in
+        subst P (sym cut_labels) (cut_by_assumed a.count own to old.labels in_labels)
 
     lines : length cut.labels ≡ line_count c
-    lines = (cut_shrunk c None a.count source.0 to old cut is).lines ∙ ready.of.lines
+    lines = (cut_shrunk c None a.count own.0 to old cut is).lines ∙ ready.of.lines
 
     labelling : IsLabelling a.count c cut.labels
     labelling = record { one_each = lines; within = is.within }
 
-    -- where the source has some state left, the board is ready again
-    pub ready_cut : label_at cut.labels source.0 ≢ no_states → MaySettle a c steps.kind steps.steps cut
+    -- where the line has some state left, the board is ready again
+    pub ready_cut : label_at cut.labels own.0 ≢ no_states → MaySettle a c steps.kind steps.steps cut
     ready_cut left = record {
-      of = still_of c old cut is.inside is.links (cut_shrunk c None a.count source.0 to old cut is).lines ready.of;
+      of = still_of c old cut is.inside is.links (cut_shrunk c None a.count own.0 to old cut is).lines ready.of;
       labelling = labelling;
       some = λ line in_circuit. ⊎_elim
-          (λ (here : source.0 ≡ line).
+          (λ (here : own.0 ≡ line).
           let P : ℕ → Type 0 = λ n. label_at cut.labels n ≢ no_states in subst P here left)
-          (λ (away : source.0 ≢ line).
+          (λ (away : own.0 ≢ line).
           let e : label_at cut.labels line ≡ label_at old.labels line =
           ap (λ labels. label_at labels line) cut_labels
-          ∙ get_or-set_other old.labels source.0 line (both_sets (label_at old.labels source.0) to) no_states (λ s. away (sym s)) in
+          ∙ get_or-set_other old.labels own.0 line (both_sets (label_at old.labels own.0) to) no_states (λ s. away (sym s)) in
           λ none. ready.some line in_circuit (sym e ∙ none))
-          (cases_eq source.0 line);
+          (cases_eq own.0 line);
       awake =
           let past = gate_count c + length old.links in
           let wakes = awake_on a c steps.kind steps.steps past None tt old cut is.inside is.links
-          (cut_shrunk c None a.count source.0 to old cut is).wakes
+          (cut_shrunk c None a.count own.0 to old cut is).wakes
           (record { gates = λ other in_c here away. ready.awake.gates other in_c here; links = λ link inside away. ready.awake.links link inside }) in
           record {
             gates = λ gate in_circuit here. wakes.gates gate in_circuit here (λ same. absurd (omega (arith, same, in_circuit)));
@@ -94,22 +94,22 @@ module _ (a : StateAlgebra) (c : Circuit) (old : OnBoard) (steps : Steps) (ready
           };
     }
 
-    -- where it has none, the source is emptied
-    pub emptied_cut : label_at cut.labels source.0 ≡ no_states → (labels : List StateSet)
-        → IsSettledFrom a c old.inside old.links steps.kind steps.steps cut.labels labels (Some source)
+    -- where it has none, the line is emptied
+    pub emptied_cut : label_at cut.labels own.0 ≡ no_states → (labels : List StateSet)
+        → IsSettledFrom a c old.inside old.links steps.kind steps.steps cut.labels labels (Some own)
     emptied_cut none labels = record {
       hull = tt;
       none_empty = tt;
       emptied = (
         omega (arith, within),
-        λ other among. no_state_at a.count c other among.labelling source.0
-            (λ state has. none_has a.count state (subst (λ s. Has a.count s state) none (among.among source.0 state has))),
+        λ other among. no_state_at a.count c other among.labelling own.0
+            (λ state has. none_has a.count state (subst (λ s. Has a.count s state) none (among.among own.0 state has))),
       );
     }
 
     pub narrowed_cut : (labels : List StateSet) (answer : Option LineId)
         → IsSettledFrom a c old.inside old.links steps.kind steps.steps cut.labels labels answer → (new : OnBoard) → new.labels ≡ labels
-        → IsNarrowedMore a c (Assumed source to) steps.kind steps.steps old new answer
+        → IsNarrowedMore a c (Assumed own to) steps.kind steps.steps old new answer
     narrowed_cut labels answer settled new is_new =
         let P : List StateSet → Type 0 = λ x. IsSettledFrom a c old.inside old.links steps.kind steps.steps cut.labels x answer in
         record { first = cut.labels; cut = cuts; settled = subst P (sym is_new) settled }

@@ -9,7 +9,7 @@ use Rattle.state_sets.specs.declared.state.StateSet.{StateSet}
 use Rattle.state_sets.specs.StateAlgebra.{StateAlgebra}
 use Rattle.pd_base.specs.Links.{links_of}
 use Rattle.state_sets.specs.Hulls.{IsNarrowingOf, IsHull, Closes}
-use Rattle.state_laws.specs.declared.half.Half.{Half}
+use Rattle.state_laws.specs.declared.split.Half.{Half}
 use Rattle.state_laws.specs.Nodes.{MayBe, IsNodeHull, ClosesAtNode}
 use Rattle.state_laws.proofs.Hulls.{hull_of_same, closes_if_wider, widens_by_states}
 use Rattle.implication.specs.declared.assumption.Beginning.{Beginning}

@@ -1,7 +1,7 @@
 -- What labels at the gates inside tell of the whole circuit: they are those of its hull where lines are told, and close where it closes.
 use Rattle.pd_base.specs.Links.{LinkList, links_of, IsLink}
-use Rattle.std.proofs.Common.{◌≡◌, ℕ, ◌-◌, ◌<◌, ◌≤◌, ⊎_elim, inl, inr, Bool, true, false, List, length, replicate, [], get_or, All, Option, Some, None, IfSome, IfNone, refl, sym, ap, ◌∙◌, subst, arith}
-use Rattle.std.proofs.lemmas.Bool.{cases_lt}
+use Rattle.std.proofs.Common.{◌≡◌, ℕ, ◌-◌, ◌<◌, ◌≤◌, ⊎_elim, inl, inr, Bool, true, false, List, length, replicate, get_or, All, Option, Some, None, IfSome, IfNone, refl, sym, ap, ◌∙◌, subst, arith}
+use Rattle.std.proofs.lemmas.Bool.{cases_lt, false≢true}
 use Rattle.std.proofs.lemmas.List.{get_or-replicate, length-replicate}
 use Rattle.pd_base.specs.declared.ids.LineId.{LineId}
 use Rattle.pd_base.specs.declared.ids.PinRef.{PinRef}
@@ -33,15 +33,8 @@ use Rattle.implication.specs.declared.assumption.Assumption.TheVariants.{Entered
 use Rattle.implication.specs.Assumptions.{entered_pins, MayUnder, IsLetBy, IsEmptiedUnder, ClosesUnder}
 use Rattle.implication.specs.Standing.{Standing, ToldEnds, IsToldBy, TellsLabels, IsLabels, IsHullFrom, IsOpenFrom, IsOpenIn, IsEmptiedFrom, IsEmptiedIn}
 use Rattle.implication.specs.FirstStates.{HasFirstValues}
-use Rattle.implication.specs.Kept.{Outset, Kept, AreAssumptions, AreToldEntries, IsToldEntry, IsAboutSource, AreToldGates, AreNearGates, AreEnough, IsOpenHull, IsEmptiedInside, StandsFrom, KeepsStanding}
+use Rattle.implication.specs.Kept.{Outset, Kept, AreAssumptions, AreToldEntries, IsToldEntry, AreToldGates, AreNearGates, AreEnough, IsOpenHull, IsEmptiedInside, StandsFrom, KeepsStanding}
 use Rattle.implication.proofs.Entering.{pins_of}
-use Rattle.implication.proofs.Shrinking.{about_sources}
-
--- an assumption about a source says nothing of the line of a gate
-lets_others : (count sources line : ℕ) (state : State) → sources ≤ line → (entry : Assumption) → IsAboutSource sources entry
-    → IsLetBy count line state entry
-lets_others count sources line state past (Entered pin) about = tt
-lets_others count sources line state past (Assumed source set) about = λ here. absurd (omega (arith, here, about, past))
 
 -- where all gates and links are inside, all lines are told
 pub cone_of_all : (c : Circuit) → IsCircuit c → (links : LinkList) → AreLinksOf c links → (inside : List Bool)
@@ -119,9 +112,18 @@ module _ (a : StateAlgebra) (from : Outset) (linked : AreLinksOf from.net (links
       let pins : All (IsPin from.net) steps = pins_of from.net from.begun.source.0 steps are.connects in
       gates step.gate.0 (pins k d within).in_circuit (told_pins from.net (links_of from.rules) ends list told k d within)
 
-  -- the line of a gate may be in every state
-  free : (gate : ℕ) → gate < gate_count from.net → (state : State) → state.0 < a.count → May (gate_line from.net gate) state
-  free gate within state below =
+  -- no entry is about a line that is not told
+  lets_untold : (line : ℕ) → ¬ IsToldBy from.net (links_of from.rules) ends line → (state : State) → (entry : Assumption)
+      → IsToldEntry from.net (links_of from.rules) ends entry → IsLetBy a.count line state entry
+  lets_untold line untold state (Entered pin) told = tt
+  lets_untold line untold state (Assumed own set) told = λ here.
+      let P : ℕ → Type 0 = λ l. IsToldBy from.net (links_of from.rules) ends l in
+      absurd (untold (subst P (sym here) told))
+
+  -- the line of a gate that is not near may be in every state
+  free : (gate : ℕ) → gate < gate_count from.net → near gate ≡ false → (state : State) → state.0 < a.count
+      → May (gate_line from.net gate) state
+  free gate within outside state below =
       let source = are.source in record {
         start = record {
           is_source = λ less. absurd (omega (arith, less));
@@ -129,19 +131,11 @@ module _ (a : StateAlgebra) (from : Outset) (linked : AreLinksOf from.net (links
           other = λ less apart. absurd (omega (arith, less));
         };
         assumed = λ k d inside.
-            lets_others a.count (source_count from.net) (gate_line from.net gate) state (omega arith) (get_or list k d)
-            (about_sources a.count (source_count from.net) [] list are.shrink k d inside);
+            lets_untold (gate_line from.net gate) (λ told_gate. false≢true (sym outside ∙ gates gate within told_gate)) state
+            (get_or list k d) (told k d inside);
       }
 
-  -- no entry is about a source that is linked from outside
-  lets_loose : (source line : ℕ) → IsLink (links_of from.rules) source line → ¬ IsLink from.inner source line → (state : State)
-      → (entry : Assumption) → IsToldEntry from.net (links_of from.rules) ends entry → IsLetBy a.count source state entry
-  lets_loose source line link outside state (Entered pin) told = tt
-  lets_loose source line link outside state (Assumed about set) told = λ here.
-      let P : ℕ → Type 0 = λ s. IsToldBy from.net (links_of from.rules) ends s in
-      absurd (outside (sources source line (subst P (sym here) told) link))
-
-  -- such a source may be in every state of a source
+  -- a source that is linked from outside may be in every state of a source
   loose : AreFreeOutside a (links_of from.rules) from.inner May
   loose source line link outside state = (
     (λ may. may.start.is_source (linked_source from.net (links_of from.rules) linked source line link)),
@@ -153,7 +147,8 @@ module _ (a : StateAlgebra) (from : Outset) (linked : AreLinksOf from.net (links
             absurd (outside (sources source line (subst P (sym here) begins) link));
         other = λ less away. linked_start a from.rules source line link state;
       };
-      assumed = λ k d inside. lets_loose source line link outside state (get_or list k d) (told k d inside);
+      assumed = λ k d inside.
+          lets_untold source (λ told_source. outside (sources source line told_source link)) state (get_or list k d) (told k d inside);
     },
   )
 
@@ -186,7 +181,7 @@ module _ (a : StateAlgebra) (laws : HasLaws a) (from : Outset) (circuit : IsCirc
       (part_of_linked_hull a from.net laws circuit.reads_lines (is_inside from.inside) (links_of from.rules) from.inner linked cone.closed
       from.begun.kind (entered_pins list) (through a from linked ends (is_inside from.inside) gates cone.sources list are begins told)
       (MayUnder a from.net from.rules from.begun list)
-      (λ gate within outside. free a from linked ends (is_inside from.inside) gates cone.sources list are begins told gate within)
+      (free a from linked ends (is_inside from.inside) gates cone.sources list are begins told)
       (loose a from linked ends (is_inside from.inside) gates cone.sources list are begins told) labels is.hull is.none_empty)
 
   -- and with near and first gates
@@ -201,7 +196,7 @@ module _ (a : StateAlgebra) (laws : HasLaws a) (from : Outset) (circuit : IsCirc
       (entered_pins list) near_steps
       (λ k d within. cone.covers (get_or (entered_pins list) k d).gate.0 (pins k d within).in_circuit (near_steps k d within))
       (MayUnder a from.net from.rules from.begun list)
-      (λ gate within outside. free a from linked ends (is_inside cone.near) gates cone.sources list are begins told gate within)
+      (free a from linked ends (is_inside cone.near) gates cone.sources list are begins told)
       (loose a from linked ends (is_inside cone.near) gates cone.sources list are begins told) labels is.hull is.none_empty)
 
   pub part : AreEnough a from.net (links_of from.rules) ends from.inside from.inner → IsPart

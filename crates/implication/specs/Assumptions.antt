@@ -1,4 +1,4 @@
--- What a scope assumes: a transition at a source, pins entered one after another, and sets of states that sources are to be in. And
+-- What a scope assumes: a transition at a source, pins entered one after another, and sets of states that lines are to be in. And
 -- what lines may be in then (this project's own).
 use Rattle.std.specs.Prelude.{◌≡◌, ⊤, ℕ, ◌==◌, List, [], ◌∷◌, All, if◌then◌else◌}
 use Rattle.std.specs.List.{fold}
@@ -22,25 +22,25 @@ use Rattle.implication.specs.declared.assumption.Assumption.TheVariants.{Entered
 abbrev pub entered_pins : List Assumption → List PinRef
 entered_pins [] = []
 entered_pins (Entered pin ∷ rest) = pin ∷ entered_pins rest
-entered_pins (Assumed source set ∷ rest) = entered_pins rest
+entered_pins (Assumed line set ∷ rest) = entered_pins rest
 
 -- the last line of the prefix that these pins make
 abbrev pub end_under : Circuit → Beginning → List Assumption → ℕ
 end_under c begun assumptions = line_after c begun.source.0 (entered_pins assumptions)
 
--- what an assumption leaves of the states of a source: where it is one of this source, those that are in its set too
+-- what an assumption leaves of the states of a line: where it is one of this line, those that are in its set too
 abbrev pub left_by : LineId → StateSet → Assumption → StateSet
-left_by source left (Entered pin) = left
-left_by source left (Assumed other set) = if other.0 == source.0 then both_sets left set else left
+left_by line left (Entered pin) = left
+left_by line left (Assumed other set) = if other.0 == line.0 then both_sets left set else left
 
--- the intersection of the sets that are assumed of a source, and all states if there are none
+-- the intersection of the sets that are assumed of a line, and all states if there are none
 abbrev pub left_of : ℕ → LineId → List Assumption → StateSet
-left_of count source assumptions = fold (left_by source) (all_states count) assumptions
+left_of count line assumptions = fold (left_by line) (all_states count) assumptions
 
 -- an assumption lets the line be in this state
 abbrev pub IsLetBy : ℕ → ℕ → State → Assumption → Type 0
 IsLetBy count line state (Entered pin) = ⊤
-IsLetBy count line state (Assumed source set) = line ≡ source.0 → Has count set state
+IsLetBy count line state (Assumed other set) = line ≡ other.0 → Has count set state
 
 -- what a line may be in under assumptions: what it may be in at the start under the rules, and what each of them lets it be in
 pub record MayUnder (a : StateAlgebra) (c : Circuit) (rules : Rules) (begun : Beginning) (assumptions : List Assumption) (line : ℕ) (state : State) : Type 0 where

@@ -1,4 +1,4 @@
--- What an engine keeps: the board, whose trail leads back to the labels before each assumption, and what was left of each source (this
+-- What an engine keeps: the board, whose trail leads back to the labels before each assumption, and what was left of each line (this
 -- project's own).
 use Rattle.std.specs.Prelude.{◌≡◌, ◌≢◌, ⊤, ℕ, ◌+◌, ◌-◌, ◌*◌, ◌<◌, ◌≤◌, ◌⊎◌, List, length, take, drop, slice_index_or, slice_set, ◌↔◌, [], ◌∷◌, ◌++◌, All, Bool, true, Option, Some, None, IfSome, IfNone}
 use Rattle.pd_base.specs.Links.{LinkList, links_of, IsLink}
@@ -33,38 +33,38 @@ use Rattle.implication.specs.Standing.{Standing, ToldEnds, IsToldBy}
 use Rattle.implication.specs.FirstStates.{HasFirstValues}
 use Rattle.implication.specs.Idling.{Idling, StandsBy, IsIdleBoard}
 
--- a set assumed of a source of the circuit, which takes some state away from what was left of the source
-pub record TakesSome (sources : ℕ) (source : LineId) (left set : StateSet) : Type 0 where
-  pub in_circuit : source.0 < sources
+-- a set assumed of a line of the circuit, which takes some state away from what was left of the line
+pub record TakesSome (lines : ℕ) (line : LineId) (left set : StateSet) : Type 0 where
+  pub in_circuit : line.0 < lines
   pub inside : both_sets left set ≡ set
   pub fewer : left.0 ≢ set.0
 
--- an assumption about a source takes some state away from what the ones before it left of the source
+-- an assumption about a line takes some state away from what the ones before it left of the line
 abbrev pub TakesFrom : ℕ → ℕ → List Assumption → Assumption → Type 0
-TakesFrom count sources before (Entered pin) = ⊤
-TakesFrom count sources before (Assumed source set) = TakesSome sources source (left_of count source before) set
+TakesFrom count lines before (Entered pin) = ⊤
+TakesFrom count lines before (Assumed line set) = TakesSome lines line (left_of count line before) set
 
--- an assumption about a source is one about a source of the circuit
-abbrev pub IsAboutSource : ℕ → Assumption → Type 0
-IsAboutSource sources (Entered pin) = ⊤
-IsAboutSource sources (Assumed source set) = source.0 < sources
+-- an assumption about a line is one about a line of the circuit
+abbrev pub IsAboutLine : ℕ → Assumption → Type 0
+IsAboutLine lines (Entered pin) = ⊤
+IsAboutLine lines (Assumed line set) = line.0 < lines
 
 -- so does each of the rest, behind the ones before
 abbrev pub DoShrink : ℕ → ℕ → List Assumption → List Assumption → Type 0
-DoShrink count sources before [] = ⊤
-DoShrink count sources before (entry ∷ rest) =
-    TakesFrom count sources before entry × DoShrink count sources (before ++ entry ∷ []) rest
+DoShrink count lines before [] = ⊤
+DoShrink count lines before (entry ∷ rest) =
+    TakesFrom count lines before entry × DoShrink count lines (before ++ entry ∷ []) rest
 
 -- a list as scopes make it: the pins connect from the source, and each set takes some state away
 pub record AreAssumptions (count : ℕ) (c : Circuit) (begun : Beginning) (assumptions : List Assumption) : Type 0 where
   pub source : begun.source.0 < source_count c
   pub connects : Connects c begun.source.0 (entered_pins assumptions)
-  pub shrink : DoShrink count (source_count c) [] assumptions
+  pub shrink : DoShrink count (line_count c) [] assumptions
 
--- the gate of a pin that was entered has a line that is told, and so is a source of which a set was assumed
+-- the gate of a pin that was entered has a line that is told, and so is a line of which a set was assumed
 abbrev pub IsToldEntry : Circuit → LinkList → Option ToldEnds → Assumption → Type 0
 IsToldEntry c links ends (Entered pin) = IsToldBy c links ends (gate_line c pin.gate.0)
-IsToldEntry c links ends (Assumed source set) = IsToldBy c links ends source.0
+IsToldEntry c links ends (Assumed line set) = IsToldBy c links ends line.0
 
 -- the same for each entry
 abbrev pub AreToldEntries : Circuit → LinkList → Option ToldEnds → List Assumption → Type 0
@@ -75,9 +75,9 @@ abbrev pub IsListFrom : ℕ → Circuit → LinkList → Option ToldEnds → Opt
 IsListFrom count c links ends None assumptions = ⊤
 IsListFrom count c links ends (Some begun) assumptions = AreAssumptions count c begun assumptions × AreToldEntries c links ends assumptions
 
--- so many assumptions can stand at most: of each source as many as there are states, and as many pins as there are levels
+-- so many assumptions can stand at most: of each line as many as there are states, and as many pins as there are levels
 abbrev pub most_assumptions : ℕ → Circuit → ℕ
-most_assumptions count c = count * source_count c + greatest_level c
+most_assumptions count c = count * line_count c + greatest_level c
 
 -- there is room for the conditions of every prefix
 pub record HasStepRoom (c : Circuit) (steps : EnteredSteps) : Type 0 where
@@ -94,9 +94,9 @@ pub record CanEnter (steps : EnteredSteps) (step : PinRef) : Type 0 where
 -- likewise for the step of an entry, if it is that of a pin
 abbrev pub CanStep : EnteredSteps → Assumption → Type 0
 CanStep steps (Entered pin) = CanEnter steps pin
-CanStep steps (Assumed source set) = ⊤
+CanStep steps (Assumed line set) = ⊤
 
--- the new labels are the old ones, cut by these assumptions about sources
+-- the new labels are the old ones, cut by these assumptions about lines
 abbrev pub AreCutBy : ℕ → List Assumption → List StateSet → List StateSet → Type 0
 AreCutBy count assumptions old new = (line : ℕ) (state : State)
     → HasAt count new line state ↔ (HasAt count old line state × All (IsLetBy count line state) assumptions)
@@ -124,20 +124,20 @@ pub record IsNarrowedToRest (old new : OnBoard) : Type 0 where
   pub follows : Follows old new
   pub at_rest : new.waiting ≡ []
 
--- what is left of the sources under an entry more
+-- what is left of the lines under an entry more
 abbrev pub left_with : Assumption → List StateSet → List StateSet
 left_with (Entered pin) left = left
-left_with (Assumed source set) left = slice_set left source.0 set
+left_with (Assumed line set) left = slice_set left line.0 set
 
--- and without it again, where so much was left before of the source that it is about
+-- and without it again, where so much was left before of the line that it is about
 abbrev pub left_without : Assumption → StateSet → List StateSet → List StateSet
 left_without (Entered pin) before left = left
-left_without (Assumed source set) before left = slice_set left source.0 before
+left_without (Assumed line set) before left = slice_set left line.0 before
 
 -- the conditions without the step of the last entry, if it is that of a pin
 abbrev pub steps_without : Assumption → EnteredSteps → EnteredSteps
 steps_without (Entered pin) steps = record steps { steps = take (length steps.steps - 1) steps.steps }
-steps_without (Assumed source set) steps = steps
+steps_without (Assumed line set) steps = steps
 
 -- from what the labels of a scope are: the circuit, the gates and links inside, the rules, and with what the scope began
 pub record Outset : Type 0 where
@@ -164,17 +164,17 @@ abbrev pub AreLabelsUnder : StateAlgebra → Outset → List Assumption → List
 AreLabelsUnder a from assumptions labels None = IsOpenHull a from assumptions labels
 AreLabelsUnder a from assumptions labels (Some line) = IsEmptiedInside a from assumptions line.0
 
--- what was left before an entry: where it is one about a source, the states that were left of the source
+-- what was left before an entry: where it is one about a line, the states that were left of the line
 abbrev pub IsLeftBefore : ℕ → List Assumption → Assumption → StateSet → Type 0
 IsLeftBefore count before (Entered pin) left = ⊤
-IsLeftBefore count before (Assumed source set) left = left ≡ left_of count source before
+IsLeftBefore count before (Assumed line set) left = left ≡ left_of count line before
 
--- what is left of each source
-pub record AreLeft (count : ℕ) (sources : ℕ) (assumptions : List Assumption) (left : List StateSet) : Type 0 where
-  pub one_each : length left ≡ sources
-  pub each : (source : ℕ) → source < sources → label_at left source ≡ left_of count (record { 0 = source }) assumptions
+-- what is left of each line
+pub record AreLeft (count : ℕ) (lines : ℕ) (assumptions : List Assumption) (left : List StateSet) : Type 0 where
+  pub one_each : length left ≡ lines
+  pub each : (line : ℕ) → line < lines → label_at left line ≡ left_of count (record { 0 = line }) assumptions
 
--- what an engine has beside its standing: the board, the idle labels, what stood before each entry, what is left of each source, and
+-- what an engine has beside its standing: the board, the idle labels, what stood before each entry, what is left of each line, and
 -- the conditions
 pub record Kept : Type 0 where
   pub board : OnBoard
@@ -219,7 +219,7 @@ pub record StandsOpen (a : StateAlgebra) (from : Outset) (ends : Option ToldEnds
   pub kind : kept.steps.kind ≡ from.begun.kind
   pub entered : kept.steps.steps ≡ entered_pins assumptions
   pub stood : Stood a from kept.board assumptions kept.befores
-  pub left : AreLeft a.count (source_count from.net) assumptions kept.left
+  pub left : AreLeft a.count (line_count from.net) assumptions kept.left
   pub answer : AreLabelsUnder a from assumptions kept.board.labels conflict
   pub idling : StandsBy a from.net from.rules kept.idle kept.board
 
@@ -230,7 +230,7 @@ pub record StandsIdle (a : StateAlgebra) (c : Circuit) (rules : Rules) (list : L
   pub free : conflict ≡ None
   pub none_before : kept.befores ≡ []
   pub no_step : kept.steps.steps ≡ []
-  pub left : AreLeft a.count (source_count c) [] kept.left
+  pub left : AreLeft a.count (line_count c) [] kept.left
   pub idling : IsIdleBoard a c rules kept.idle kept.board
 
 -- what stands, by whether a scope has begun

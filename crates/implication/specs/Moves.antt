@@ -16,14 +16,14 @@ use Rattle.implication.specs.Standing.{Standing}
 abbrev pub with_entered : List Assumption → PinRef → List Assumption
 with_entered list pin = list ++ Entered pin ∷ []
 
--- the list with what is left of a source cut down; it stays as it is where that takes no state away
+-- the list with what is left of a line cut down; it stays as it is where that takes no state away
 abbrev pub with_cut : List Assumption → LineId → StateSet → StateSet → List Assumption
-with_cut list source left cut = if left.0 == cut.0 then list else list ++ Assumed source cut ∷ []
+with_cut list line left cut = if left.0 == cut.0 then list else list ++ Assumed line cut ∷ []
 
--- the list with a set assumed of a source: what was left of the source, intersected with the set
+-- the list with a set assumed of a line: what was left of the line, intersected with the set
 abbrev pub with_assumed : ℕ → List Assumption → LineId → StateSet → List Assumption
-with_assumed count list source set =
-    with_cut list source (left_of count source list) (both_sets (left_of count source list) set)
+with_assumed count list line set =
+    with_cut list line (left_of count line list) (both_sets (left_of count line list) set)
 
 -- one more, up to the greatest number of 64 bits
 abbrev pub risen : ℕ → ℕ

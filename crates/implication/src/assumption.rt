@@ -18,7 +18,7 @@ pub struct Beginning {
 pub enum Assumption {
     /// The prefix goes on through this pin.
     Entered(PinRef),
-    /// The source is in one of these states: what was left of it, intersected with the set that was assumed.
+    /// The line is in one of these states: what was left of it, intersected with the set that was assumed.
     Assumed(LineId, StateSet),
 }
 

@@ -106,7 +106,7 @@ impl<A: Algebra, S: Setting> Engine<A, S> {
     }
 
     /// The same, but it tells of the lines in the support of these ends and of the sources without a link alone; a scope begins at a
-    /// source that is told, and only sources that are told and gates whose lines are told can be assumed and entered.
+    /// source that is told, only of lines that are told can sets be assumed, and only gates whose lines are told can be entered.
     pub fn within(alloc: Global, setting: S, ends: &[LineId]) -> Result<Engine<A, S>, OutOfMemory>
         requires ends { All (λ end. end.0 < line_count (S.circuit setting)) ends.now }
         requires fit { FitRules (S.circuit setting) (S.rules setting) }
@@ -370,31 +370,31 @@ impl<A: Algebra, S: Setting> Engine<A, S> {
         self.closings
     }
 
-    // Assumes a set of a source, unless a conflict stands or no scope is open.
-    pub(crate) fn assume(&mut self, source: LineId, to: StateSet) -> Result<(), Conflict>
-        requires source { source.0 < source_count self.old.net }
-        requires told { IsTold self.old source.0 }
+    // Assumes a set of a line, unless a conflict stands or no scope is open.
+    pub(crate) fn assume(&mut self, line: LineId, to: StateSet) -> Result<(), Conflict>
+        requires line { line.0 < line_count self.old.net }
+        requires told { IsTold self.old line.0 }
         ensures idle { self.old.beginning ≡ None → self.new ≡ self.old }
-        ensures held { IfSome self.old.conflict (λ line. (result ≡ Err (record { 0 = line })) × (self.new ≡ self.old)) }
-        ensures ok { OnOk result (self.new ≡ grown self.old (with_assumed A.algebra.count self.old.assumptions source to)) }
+        ensures held { IfSome self.old.conflict (λ emptied. (result ≡ Err (record { 0 = emptied })) × (self.new ≡ self.old)) }
+        ensures ok { OnOk result (self.new ≡ grown self.old (with_assumed A.algebra.count self.old.assumptions line to)) }
         ensures err { IsFree self.old → IfErr result (λ conflict.
-            self.new ≡ closed_at self.old (with_assumed A.algebra.count self.old.assumptions source to) conflict.0) }
+            self.new ≡ closed_at self.old (with_assumed A.algebra.count self.old.assumptions line to) conflict.0) }
         ensures open { OnOk result (IsOpenIn A.algebra self.new) }
         ensures emptied { IfErr result (λ conflict. IsEmptiedIn A.algebra self.new conflict.0.0) }
         ensures extends { ExtendsStanding self.old self.new }
     {
-        if let Some(line) = self.conflict {
-            return Err(Conflict(line));
+        if let Some(emptied) = self.conflict {
+            return Err(Conflict(emptied));
         }
         if self.beginning.is_none() {
-            return Err(Conflict(source));
+            return Err(Conflict(line));
         }
-        let left = self.lists.left[source.0 as usize];
+        let left = self.lists.left[line.0 as usize];
         let cut = left.intersect(to);
         if cut == left {
             return Ok(());
         }
-        self.add(Assumption::Assumed(source, cut), left)
+        self.add(Assumption::Assumed(line, cut), left)
     }
 
     // Enters a pin, unless a conflict stands or no scope is open.
@@ -419,7 +419,7 @@ impl<A: Algebra, S: Setting> Engine<A, S> {
         self.add(Assumption::Entered(pin), StateSet::EMPTY)
     }
 
-    // Adds an entry, with what was left of its source, and narrows the labels on.
+    // Adds an entry, with what was left of its line, and narrows the labels on.
     fn add(&mut self, entry: Assumption, left: StateSet) -> Result<(), Conflict>
         requires begun { IsSome self.old.beginning }
         requires free { self.old.conflict ≡ None }

@@ -1,8 +1,12 @@
 // What an engine is made of: a board with what narrows it, idle as it is made, and the lists of what is assumed, each made by itself, so
 // that few values stand at once where memory may run out.
+//
+// The lists have room for all that can stand at once: for each state of each line, and for each level, an assumption of 12 bytes and what
+// stood before it of 16; and a byte for each line. Under six states these are 169 bytes for a line and 28 for a level, so 44 million at the
+// most lines and levels.
 ghost use Rattle.std.specs.Prelude.{◌≡◌, ◌<◌, ◌≤◌, ◌+◌, ◌++◌, true, [], length, replicate, vec_capacity, IfOk};
 ghost use Rattle.pd_base.specs.declared.fault.Kind.TheVariants.{Robust};
-ghost use Rattle.netlist.specs.Circuit.{source_count, gate_count};
+ghost use Rattle.netlist.specs.Circuit.{gate_count, line_count};
 ghost use Rattle.netlist.specs.LinkedPairs.{AreLinksOf};
 ghost use Rattle.netlist.specs.Lawful.{IsCircuit};
 ghost use Rattle.netlist.specs.Levels.{greatest_level};
@@ -63,13 +67,13 @@ impl<A: Algebra> BoardParts<A> {
     }
 }
 
-// The lists of assumptions and of what stood before each, both empty, and what is left of each source, all its states.
+// The lists of assumptions and of what stood before each, both empty, and what is left of each line, all states.
 #[derive(Drop)]
 pub(crate) struct Lists {
     pub(crate) assumptions: Vec<Assumption>,
     /// What stood before each assumption.
     pub(crate) befores: Vec<Before>,
-    /// What is left of each source.
+    /// What is left of each line.
     pub(crate) left: Vec<StateSet>,
 }
 
@@ -79,14 +83,14 @@ impl Lists {
         ensures circuit { IsCircuit net.now }
         ensures none_assumed { IfOk result (λ lists. lists.assumptions.items ≡ []) }
         ensures none_before { IfOk result (λ lists. lists.befores.items ≡ []) }
-        ensures left { IfOk result (λ lists. lists.left.items ≡ replicate (source_count net.now) (all_states A.algebra.count)) }
+        ensures left { IfOk result (λ lists. lists.left.items ≡ replicate (line_count net.now) (all_states A.algebra.count)) }
         ensures room { IfOk result (λ lists. most_assumptions A.algebra.count net.now ≤ vec_capacity lists.assumptions) }
         ensures befores_room { IfOk result (λ lists. most_assumptions A.algebra.count net.now ≤ vec_capacity lists.befores) }
     {
         let most = most_assumptions::<A>(net);
         let assumptions = Vec::with_capacity(alloc, most)?;
         let befores = Vec::with_capacity(alloc, most)?;
-        let left = vec![in alloc; every_state::<A>(); net.sources() as usize]?;
+        let left = vec![in alloc; every_state::<A>(); net.lines() as usize]?;
         Ok(Lists {
             assumptions,
             befores,
@@ -95,11 +99,11 @@ impl Lists {
     }
 }
 
-// The most assumptions that can stand at once: of each source as many sets as there are states, since each takes some state away,
+// The most assumptions that can stand at once: of each line as many sets as there are states, since each takes some state away,
 // and as many pins as there are levels.
 fn most_assumptions<A: Algebra>(net: &Netlist) -> usize
     ensures room { most_assumptions A.algebra.count net.now ≤ result }
     ensures circuit { IsCircuit net.now }
 {
-    count_states::<A>() as usize * net.sources() as usize + net.levels() as usize
+    count_states::<A>() as usize * net.lines() as usize + net.levels() as usize
 }

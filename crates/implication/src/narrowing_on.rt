@@ -1,12 +1,12 @@
 // The labels under one entry more of the list of assumptions: what it cuts is narrowed on from the labels under those before. And what
-// is left of the sources, and the conditions, with an entry more or with the last one taken back.
+// is left of the lines, and the conditions, with an entry more or with the last one taken back.
 ghost use Rattle.std.specs.Prelude.{◌≡◌, ◌<◌, ◌∷◌, ◌++◌, [], length, All};
-ghost use Rattle.netlist.specs.Circuit.{source_count};
+ghost use Rattle.netlist.specs.Circuit.{line_count};
 ghost use Rattle.netlist.specs.Pins.{IsPin};
 ghost use Rattle.hulls.specs.Conditions.{IsEnteredOn};
 ghost use Rattle.hulls.specs.Settling.{MaySettle};
 ghost use Rattle.implication.specs.Assumptions.{entered_pins};
-ghost use Rattle.implication.specs.Kept.{IsNarrowedMore, IsNarrowedToRest, IsSettledFrom, IsAboutSource, CanStep, CanEnter, left_with, left_without, steps_without};
+ghost use Rattle.implication.specs.Kept.{IsNarrowedMore, IsNarrowedToRest, IsSettledFrom, IsAboutLine, CanStep, CanEnter, left_with, left_without, steps_without};
 ghost use Rattle.implication.specs.declared.assumption.Assumption.TheVariants.{Assumed};
 
 use crate::Assumption;
@@ -28,15 +28,15 @@ pub(crate) fn narrow_on<A: Algebra>(
     requires entered { IsEnteredOn net.now conditions.old }
     requires step { CanStep conditions.old entry }
     requires pins { All (IsPin net.now) (entered_pins (entry ∷ [])) }
-    requires source { IsAboutSource (source_count net.now) entry }
+    requires line { IsAboutLine (line_count net.now) entry }
     ensures steps { conditions.new ≡ record conditions.old { steps = conditions.old.steps ++ entered_pins (entry ∷ []) } }
     ensures narrowed { IsNarrowedMore A.algebra net.now entry conditions.new.kind conditions.new.steps board.old board.new result }
     ensures board { IsNarrowedToRest board.old board.new }
 {
     match entry {
         Assumption::Entered(pin) => narrow_on_entered(net, pin, board, conditions, scratch),
-        Assumption::Assumed(source, set) => {
-            narrow_on_cut(net, source, set, board, conditions, scratch)
+        Assumption::Assumed(line, set) => {
+            narrow_on_cut(net, line, set, board, conditions, scratch)
         }
     }
 }
@@ -63,10 +63,10 @@ fn narrow_on_entered<A: Algebra>(
     board.settle(net, conditions, scratch)
 }
 
-// The same where a source is cut down to a set: the gates on its line are narrowed again.
+// The same where a line is cut down to a set: the gates that have it among their lines are narrowed again, the one that drives it too.
 pub(crate) fn narrow_on_cut<A: Algebra>(
     net: &Netlist,
-    source: LineId,
+    line: LineId,
     set: StateSet,
     board: &mut Board<A>,
     conditions: &Conditions,
@@ -74,35 +74,35 @@ pub(crate) fn narrow_on_cut<A: Algebra>(
 ) -> Option<LineId>
     requires ready { MaySettle A.algebra net.now conditions.now.kind conditions.now.steps board.old }
     requires entered { IsEnteredOn net.now conditions.now }
-    requires source { source.0 < source_count net.now }
-    ensures narrowed { IsNarrowedMore A.algebra net.now (Assumed source set) conditions.now.kind conditions.now.steps
+    requires line { line.0 < line_count net.now }
+    ensures narrowed { IsNarrowedMore A.algebra net.now (Assumed line set) conditions.now.kind conditions.now.steps
         board.old board.new result }
     ensures board { IsNarrowedToRest board.old board.new }
 {
-    if board.cut(net, source, set) == StateSet::EMPTY {
+    if board.cut(net, line, set) == StateSet::EMPTY {
         board.rest();
-        return Some(source);
+        return Some(line);
     }
     board.settle(net, conditions, scratch)
 }
 
-// Leaves of its source what an entry leaves.
+// Leaves of its line what an entry leaves.
 pub(crate) fn take_from(left: &mut Vec<StateSet>, entry: Assumption)
-    requires { IsAboutSource (length left.old.items) entry }
+    requires { IsAboutLine (length left.old.items) entry }
     ensures { left.new.items ≡ left_with entry left.old.items }
 {
-    if let Assumption::Assumed(source, set) = entry {
-        left[source.0 as usize] = set;
+    if let Assumption::Assumed(line, set) = entry {
+        left[line.0 as usize] = set;
     }
 }
 
-// Leaves of its source again what was left before the entry.
+// Leaves of its line again what was left before the entry.
 pub(crate) fn put_back(left: &mut Vec<StateSet>, entry: Assumption, before: StateSet)
-    requires { IsAboutSource (length left.old.items) entry }
+    requires { IsAboutLine (length left.old.items) entry }
     ensures { left.new.items ≡ left_without entry before left.old.items }
 {
-    if let Assumption::Assumed(source, _) = entry {
-        left[source.0 as usize] = before;
+    if let Assumption::Assumed(line, _) = entry {
+        left[line.0 as usize] = before;
     }
 }
 

@@ -106,18 +106,18 @@ impl<'e, A: Algebra, S: Setting> Scope<'e, A, S> {
         }
     }
 
-    /// Assumes that a source is in a state of this set. Nothing is added where that takes no state away from what was left of the
-    /// source, nor while a conflict stands, which is then the answer. A Conflict gives a line at which no state is left, and what was
-    /// assumed stays.
-    pub fn assume(&mut self, source: LineId, to: StateSet) -> Result<(), Conflict>
-        requires source { source.0 < source_count (standing self.old).net }
-        requires told { IsTold (standing self.old) source.0 }
+    /// Assumes that a line, a source or that of a gate, is in a state of this set. Nothing is added where that takes no state away from
+    /// what the assumptions left of the line, nor while a conflict stands, which is then the answer. A Conflict gives a line at which no
+    /// state is left, and what was assumed stays.
+    pub fn assume(&mut self, line: LineId, to: StateSet) -> Result<(), Conflict>
+        requires line { line.0 < line_count (standing self.old).net }
+        requires told { IsTold (standing self.old) line.0 }
         ensures scope { IsSameScope self.old self.new }
-        ensures tells { TellsOfMore A.algebra (with_assumed A.algebra.count (standing self.old).assumptions source to)
+        ensures tells { TellsOfMore A.algebra (with_assumed A.algebra.count (standing self.old).assumptions line to)
             (standing self.old) (standing self.new) result }
         ensures extends { ExtendsStanding (standing self.old) (standing self.new) }
     {
-        self.engine.assume(source, to)
+        self.engine.assume(line, to)
     }
 
     /// Goes on through a pin on the last line of the prefix, whose gate's line is told. Counts one step, whatever it answers. The

@@ -1,4 +1,4 @@
--- An entry more is a pin entered, or a source cut.
+-- An entry more is a pin entered, or a line cut.
 use Rattle.std.proofs.Common.{arith}
 use Rattle.std.proofs.lemmas.Grind.{common_steps}
 use Rattle.implication.proofs.narrowing_on.narrow_on.Goals as goal

@@ -1,6 +1,6 @@
 -- An assumption more: there is room for it, and what stood stands with it.
 use Rattle.std.proofs.Common.{rules, ◌<◌, Some, None, length, vec_capacity, refl}
-use Rattle.implication.proofs.Keeping.{add_room, add_befores_room, add_left, add_step, add_ready, add_entered, add_pins, add_source, added}
+use Rattle.implication.proofs.Keeping.{add_room, add_befores_room, add_left, add_step, add_ready, add_entered, add_pins, add_line, added}
 use Rattle.implication.proofs.Wholes.{open_of, emptied_of}
 use Rattle.implication.proofs.engine.Engine.add.Goals as goal
 
@@ -41,9 +41,9 @@ narrow_on-emptied-requires-clause-pins g c =
     add_pins g.A.Algebra.algebra c.self.invariant.0 c.args.self.now c.self.view_is c.requires.begun c.requires.free c.args.entry c.requires.fits
     c.netlist.result.now c.netlist.ensures
 
-pub narrow_on-emptied-requires-clause-source : goal.narrow_on-emptied-requires-clause-source
-narrow_on-emptied-requires-clause-source g c =
-    add_source g.A.Algebra.algebra c.self.invariant.0 c.args.self.now c.self.view_is c.requires.begun c.requires.free c.args.entry c.requires.fits
+pub narrow_on-emptied-requires-clause-line : goal.narrow_on-emptied-requires-clause-line
+narrow_on-emptied-requires-clause-line g c =
+    add_line g.A.Algebra.algebra c.self.invariant.0 c.args.self.now c.self.view_is c.requires.begun c.requires.free c.args.entry c.requires.fits
     c.netlist.result.now c.netlist.ensures
 
 pub invariant_of-self : goal.invariant_of-self

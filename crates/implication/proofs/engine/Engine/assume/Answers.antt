@@ -10,22 +10,22 @@ use Rattle.implication.proofs.engine.Engine.assume.Goals as goal
 
 pub add-requires-clause-left : goal.add-requires-clause-left
 add-requires-clause-left g c =
-    left_seen g.A.Algebra.algebra c.self.invariant.0 c.args.self.now c.self.view_is c.args.source c.requires.source c.index.result.now c.index.ensures
+    left_seen g.A.Algebra.algebra c.self.invariant.0 c.args.self.now c.self.view_is c.args.line c.requires.line c.index.result.now c.index.ensures
 
 pub add-requires-clause-fits : goal.add-requires-clause-fits
 add-requires-clause-fits g c =
-    assumed_fits g.A.Algebra.algebra c.self.invariant.0 c.args.self.now c.self.view_is c.args.source c.args.to c.index.result.now
-    c.intersect-cut.result c.requires.source c.requires.told c.index.ensures c.intersect-cut.ensures (sym c.if-eq.false ∙ c.eq.ensures)
+    assumed_fits g.A.Algebra.algebra c.self.invariant.0 c.args.self.now c.self.view_is c.args.line c.args.to c.index.result.now
+    c.intersect-cut.result c.requires.line c.requires.told c.index.ensures c.intersect-cut.ensures (sym c.if-eq.false ∙ c.eq.ensures)
 
 pub returns-in-Some-clause-emptied : goal.returns-in-Some-clause-emptied
 returns-in-Some-clause-emptied g c =
-    emptied_of g.A.Algebra.algebra g.met.A.Algebra.laws c.self.invariant.0 c.args.self.now c.self.view_is (Some c.in-Some.line) c.in-Some.is
+    emptied_of g.A.Algebra.algebra g.met.A.Algebra.laws c.self.invariant.0 c.args.self.now c.self.view_is (Some c.in-Some.emptied) c.in-Some.is
 
 pub returns-then-eq-clause-ok : goal.returns-then-eq-clause-ok
 returns-then-eq-clause-ok g c =
     ap (grown c.args.self.now)
-    (sym (assumed_none g.A.Algebra.algebra.count c.args.self.now.assumptions c.args.source c.args.to c.index.result.now c.intersect-cut.result
-    (left_seen g.A.Algebra.algebra c.self.invariant.0 c.args.self.now c.self.view_is c.args.source c.requires.source c.index.result.now c.index.ensures)
+    (sym (assumed_none g.A.Algebra.algebra.count c.args.self.now.assumptions c.args.line c.args.to c.index.result.now c.intersect-cut.result
+    (left_seen g.A.Algebra.algebra c.self.invariant.0 c.args.self.now c.self.view_is c.args.line c.requires.line c.index.result.now c.index.ensures)
     c.intersect-cut.ensures (sym c.if-eq.true ∙ c.eq.ensures)))
 
 pub returns-then-eq-clause-open : goal.returns-then-eq-clause-open
@@ -37,8 +37,8 @@ pub returns-clause-ok : goal.returns-clause-ok
 returns-clause-ok g c =
     let P : List Assumption → Type 0 = λ list. OnOk c.add.result (c.add.new.self ≡ grown c.args.self.now list) in
     subst P
-    (sym (assumed_more g.A.Algebra.algebra.count c.args.self.now.assumptions c.args.source c.args.to c.index.result.now c.intersect-cut.result
-    (left_seen g.A.Algebra.algebra c.self.invariant.0 c.args.self.now c.self.view_is c.args.source c.requires.source c.index.result.now c.index.ensures)
+    (sym (assumed_more g.A.Algebra.algebra.count c.args.self.now.assumptions c.args.line c.args.to c.index.result.now c.intersect-cut.result
+    (left_seen g.A.Algebra.algebra c.self.invariant.0 c.args.self.now c.self.view_is c.args.line c.requires.line c.index.result.now c.index.ensures)
     c.intersect-cut.ensures (sym c.if-eq.false ∙ c.eq.ensures)))
     c.add.ensures.ok
 
@@ -46,15 +46,15 @@ pub returns-clause-err : goal.returns-clause-err
 returns-clause-err g c = λ free.
     let P : List Assumption → Type 0 = λ list. IfErr c.add.result (λ conflict. c.add.new.self ≡ closed_at c.args.self.now list conflict.0) in
     subst P
-    (sym (assumed_more g.A.Algebra.algebra.count c.args.self.now.assumptions c.args.source c.args.to c.index.result.now c.intersect-cut.result
-    (left_seen g.A.Algebra.algebra c.self.invariant.0 c.args.self.now c.self.view_is c.args.source c.requires.source c.index.result.now c.index.ensures)
+    (sym (assumed_more g.A.Algebra.algebra.count c.args.self.now.assumptions c.args.line c.args.to c.index.result.now c.intersect-cut.result
+    (left_seen g.A.Algebra.algebra c.self.invariant.0 c.args.self.now c.self.view_is c.args.line c.requires.line c.index.result.now c.index.ensures)
     c.intersect-cut.ensures (sym c.if-eq.false ∙ c.eq.ensures)))
     c.add.ensures.err
 
 pub returns-clause-extends : goal.returns-clause-extends
 returns-clause-extends g c =
     let free : c.args.self.now.conflict ≡ None = search rules in
-    extends_added c.add.result c.args.self.now c.add.new.self (Assumed c.args.source c.intersect-cut.result) free c.add.ensures.ok
+    extends_added c.add.result c.args.self.now c.add.new.self (Assumed c.args.line c.intersect-cut.result) free c.add.ensures.ok
     c.add.ensures.err c.add.ensures.later
 
 pub returns-in-Some-clause-extends : goal.returns-in-Some-clause-extends

@@ -7,7 +7,7 @@ use Rattle.std.proofs.Common.{◌≤◌, [], Bool, List, replicate, vec_capacity
 use Rattle.std.specs.Option.{option_map}
 use Rattle.pd_base.specs.declared.fault.Kind.TheVariants.{Robust}
 use Rattle.pd_base.specs.declared.rules.Rules.{Rules}
-use Rattle.netlist.specs.Circuit.{Circuit, source_count, gate_count}
+use Rattle.netlist.specs.Circuit.{Circuit, gate_count, line_count}
 use Rattle.netlist.specs.Lawful.{IsCircuit}
 use Rattle.netlist.specs.Levels.{greatest_level}
 use Rattle.state_sets.specs.States.{all_states}
@@ -58,7 +58,7 @@ invariant_of-result g c =
           (more_enough net circuit flags c.requires.one_each (length inner) a (links_of rules) inner ends c.requires.told)))
           (subst R c.rules.ensures (subst Q c.netlist-2.ensures placed.idle))
           c.requires.fit made.none_assumed
-          made.none_before (made.left ∙ ap (λ (x : Circuit). replicate (source_count x) (all_states a.count)) c.netlist.ensures)
+          made.none_before (made.left ∙ ap (λ (x : Circuit). replicate (line_count x) (all_states a.count)) c.netlist.ensures)
           (placed.conditions ∙ ap begun c.netlist-2.ensures) (subst S c.netlist.ensures made.room) (subst T c.netlist.ensures made.befores_room),
       c.requires.lines,
     )
