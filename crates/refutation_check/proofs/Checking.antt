@@ -1,4 +1,4 @@
--- How far a check has come: a walk over the nodes of a tree, each of which was right, below halves of sources such as are asked for. And
+-- How far a check has come: a walk over the nodes of a tree, each of which was right, below halves of lines such as are asked for. And
 -- what its answer tells.
 use Rattle.std.proofs.Common.{◌≡◌, ⊎_elim, inl, inr, ℕ, suc, ◌+◌, ◌<◌, ◌≤◌, ◌↔◌, Bool, true, false, cond, List, [], ◌∷◌, length, drop, get_or, reverse, Some, refl, sym, ap, ◌∙◌, subst, subst₂, arith, add-one}
 use Rattle.std.specs.Prelude.{IsTrue}
@@ -14,9 +14,10 @@ use Rattle.pd_base.specs.declared.rules.Rules.{Rules}
 use Rattle.netlist.specs.Circuit.{Circuit}
 use Rattle.netlist.specs.Paths.{end_of}
 use Rattle.state_sets.specs.StateAlgebra.{StateAlgebra}
-use Rattle.state_laws.specs.declared.half.Half.{Half}
+use Rattle.state_laws.specs.declared.split.Half.{Half}
+use Rattle.state_laws.specs.Halves.{half_of}
 use Rattle.trees.specs.declared.tree.Node.{Node}
-use Rattle.trees.specs.declared.tree.Node.TheVariants.{Closed, Waiting, Value, Steadiness}
+use Rattle.trees.specs.declared.tree.Node.TheVariants.{Closed, Waiting, Split}
 use Rattle.trees.specs.Trees.{Cases, preorder, IsTree, split_count}
 use Rattle.trees.specs.Halves.{halves_of, turned, turns, GoesOn}
 use Rattle.trees.specs.Faults.{IsRightInRefutation, IsRightInSpent, RefutesAtNode, IsFirstFaultOf}
@@ -25,7 +26,6 @@ use Rattle.trees.specs.Refutations.{IsRefutation}
 use Rattle.trees.specs.Spent.{IsInSupport, IsSpent}
 use Rattle.trees.proofs.Faults.{right_refutes, right_spent, fault_refutes_not, fault_spent_not}
 use Rattle.trees.proofs.Walks.{HasCome, come_none, come_stands, stands_fault, come_all, come_leaf, come_split}
-use Rattle.trees.proofs.Walks.IsSplitNode.{value_node, steadiness_node}
 use Rattle.implication.specs.Settings.{IsSameSetting}
 use Rattle.implication.specs.Standing.{Standing, told_ends, IsSupportTold, IsToldBy}
 use Rattle.implication.proofs.Told.{end_told}
@@ -38,35 +38,35 @@ use Rattle.refutation_check.specs.Trials.{IsScopeInSupport, Shows}
 use Rattle.refutation_check.specs.Walks.{IsScopeAt, ArePending, WalksAt, GoesOnTo, PassesOn}
 use Rattle.refutation_check.proofs.SameSettings.{support_told_there}
 
--- the halves from the root down are of the same sources as from the deepest up
-on_halves : (On : ℕ → Type 0) (above : List Half) → All (λ half. On half.source) above → All (λ half. On half.source) (halves_of above)
-on_halves On [] on = All-nil (λ (half : Half). On half.source)
+-- the halves from the root down are of the same lines as from the deepest up
+on_halves : (On : ℕ → Type 0) (above : List Half) → All (λ half. On half.split.line.0) above → All (λ half. On half.split.line.0) (halves_of above)
+on_halves On [] on = All-nil (λ (half : Half). On half.split.line.0)
 on_halves On (half ∷ above) on =
-    let P : Half → Type 0 = λ h. On h.source in
+    let P : Half → Type 0 = λ h. On h.split.line.0 in
     All-push P (halves_of above) half (on_halves On above (All-tail P half above on)) (All-head P half above on)
 
 -- so are those of each place at which trees are due
-on_more : (On : ℕ → Type 0) (half : Half) (above : List Half) (second : Bool) → All (λ h. On h.source) (half ∷ above)
-    → All (λ halves. All (λ h. On h.source) halves) (turns above)
-    → All (λ halves. All (λ h. On h.source) halves) (cond second (turns above) ((turned half ∷ above) ∷ turns above))
+on_more : (On : ℕ → Type 0) (half : Half) (above : List Half) (second : Bool) → All (λ h. On h.split.line.0) (half ∷ above)
+    → All (λ halves. All (λ h. On h.split.line.0) halves) (turns above)
+    → All (λ halves. All (λ h. On h.split.line.0) halves) (cond second (turns above) ((turned half ∷ above) ∷ turns above))
 on_more On half above true on higher = higher
 on_more On half above false on higher =
-    let P : Half → Type 0 = λ h. On h.source in
+    let P : Half → Type 0 = λ h. On h.split.line.0 in
     All-cons (λ (halves : List Half). All P halves) (turned half ∷ above) (turns above)
     (All-cons P (turned half) above (All-head P half above on) (All-tail P half above on)) higher
 
-on_turns : (On : ℕ → Type 0) (above : List Half) → All (λ half. On half.source) above
-    → All (λ halves. All (λ half. On half.source) halves) (turns above)
-on_turns On [] on = All-nil (λ (halves : List Half). All (λ (half : Half). On half.source) halves)
+on_turns : (On : ℕ → Type 0) (above : List Half) → All (λ half. On half.split.line.0) above
+    → All (λ halves. All (λ half. On half.split.line.0) halves) (turns above)
+on_turns On [] on = All-nil (λ (halves : List Half). All (λ (half : Half). On half.split.line.0) halves)
 on_turns On (half ∷ above) on =
-    let P : Half → Type 0 = λ h. On h.source in
+    let P : Half → Type 0 = λ h. On h.split.line.0 in
     on_more On half above half.second on (on_turns On above (All-tail P half above on))
 
 -- and those of the place to which a walk goes on
-on_behind : (On : ℕ → Type 0) (above next : List Half) → GoesOnTo above next → All (λ half. On half.source) above
-    → All (λ half. On half.source) next
+on_behind : (On : ℕ → Type 0) (above next : List Half) → GoesOnTo above next → All (λ half. On half.split.line.0) above
+    → All (λ half. On half.split.line.0) next
 on_behind On above next goes on =
-    let P : List Half → Type 0 = λ halves. All (λ (half : Half). On half.source) halves in
+    let P : List Half → Type 0 = λ halves. All (λ (half : Half). On half.split.line.0) halves in
     ⊎_elim (λ last. subst P (sym last.1) on)
     (λ more. All-head P next (turns next) (subst (λ (places : List (List Half)). All P places) more (on_turns On above on))) goes
 
@@ -74,21 +74,20 @@ on_behind On above next goes on =
 goes_on : (above next : List Half) → GoesOnTo above next → GoesOn above next
 goes_on above next goes = ⊎_elim (λ last. inl last.0) (λ more. inr more) goes
 
--- where the node is a split, it is on such a source
+-- where the node is a split, it is at such a line
 abbrev pub SplitsOn : (ℕ → Type 0) → Node → Type 0
 SplitsOn On Closed = Unit {0}
 SplitsOn On Waiting = Unit {0}
-SplitsOn On (Value source) = On source
-SplitsOn On (Steadiness source) = On source
+SplitsOn On (Split split) = On split.line.0
 
 module _ (a : StateAlgebra) where
-  -- a walk stands at this place of the nodes, each node before was right, and the halves above are of such sources
+  -- a walk stands at this place of the nodes, each node before was right, and the halves above are of such lines
   pub record HasChecked (IsRight : List Half → Node → Type 0) (On : ℕ → Type 0) (target : Target) (nodes : List Node) (place : ℕ)
       (standing : Standing) (pending : List Pending) : Type 0 where
     pub above : List Half
     pub walks : WalksAt a target above standing pending
     pub come : (whole : Cases) → nodes ≡ preorder whole → HasCome IsRight whole nodes place above
-    pub on : All (λ half. On half.source) above
+    pub on : All (λ half. On half.split.line.0) above
 
   module _ (IsRight : List Half → Node → Type 0) (On : ℕ → Type 0) (target : Target) (nodes : List Node) where
     -- at the root
@@ -103,7 +102,7 @@ module _ (a : StateAlgebra) where
       come = λ whole tree.
           let Q : List Node → Type 0 = λ n. HasCome IsRight whole n 0 [] in
           subst Q (sym tree) (come_none IsRight whole);
-      on = All-nil (λ (half : Half). On half.source);
+      on = All-nil (λ (half : Half). On half.split.line.0);
     }
 
     module _ (place : ℕ) (standing : Standing) (pending : List Pending) (checked : HasChecked IsRight On target nodes place standing pending) where
@@ -113,8 +112,8 @@ module _ (a : StateAlgebra) where
           drop-cons nodes place d inside ∙ ap (λ (n : Node). n ∷ drop (suc place) nodes) (sym is)
           ∙ ap (λ k. node ∷ drop k nodes) (sym (add-one place))
 
-      -- the halves above it are of such sources
-      pub checked_on : All (λ half. On half.source) (halves_of checked.above)
+      -- the halves above it are of such lines
+      pub checked_on : All (λ half. On half.split.line.0) (halves_of checked.above)
       checked_on = on_halves On checked.above checked.on
 
       -- what is told of any node at which the scope stands is told of the one here
@@ -155,19 +154,12 @@ module _ (a : StateAlgebra) where
                 (rest_here Waiting d inside is) refl right (goes_on checked.above next.0 next.1) (checked.come whole tree);
             on = on_behind On checked.above next.0 next.1 checked.on;
           }
-      checked_more (Value source) d new after inside is right on passes = record {
-        above = record { source = source; steadiness = false; second = false } ∷ checked.above;
+      checked_more (Split split) d new after inside is right on passes = record {
+        above = half_of split false ∷ checked.above;
         walks = passes target checked.above checked.walks;
-        come = λ whole tree. come_split IsRight whole nodes place checked.above (Value source) false source
-            (rest_here (Value source) d inside is) (value_node source) right (checked.come whole tree);
-        on = All-cons (λ (half : Half). On half.source) (record { source = source; steadiness = false; second = false }) checked.above on checked.on;
-      }
-      checked_more (Steadiness source) d new after inside is right on passes = record {
-        above = record { source = source; steadiness = true; second = false } ∷ checked.above;
-        walks = passes target checked.above checked.walks;
-        come = λ whole tree. come_split IsRight whole nodes place checked.above (Steadiness source) true source
-            (rest_here (Steadiness source) d inside is) (steadiness_node source) right (checked.come whole tree);
-        on = All-cons (λ (half : Half). On half.source) (record { source = source; steadiness = true; second = false }) checked.above on checked.on;
+        come = λ whole tree. come_split IsRight whole nodes place checked.above split (rest_here (Split split) d inside is) right
+            (checked.come whole tree);
+        on = All-cons (λ (half : Half). On half.split.line.0) (half_of split false) checked.above on checked.on;
       }
 
       -- at the end each node is right
@@ -187,32 +179,30 @@ module _ (a : StateAlgebra) where
       subst₂ P setting.net setting.rules (tells target halves at)
 
   pub spends_there : (before now : Standing) → IsSameSetting before now → (node : Node) (r : Bool) (target : Target) (halves : List Half)
-      → All (λ half. IsInSupport before.net before.rules target.path half.source) halves
+      → All (λ half. IsInSupport before.net before.rules target.path half.split.line.0) halves
       → ((some : List Half) → IsScopeInSupport a target some now
       → Shows (IsSupportTold now (end_of now.net target.path)) r (IsRightInSpent now.net now.rules target some node)) → IsScopeAt a target halves now
       → Shows (IsSupportTold before (end_of before.net target.path)) r (IsRightInSpent before.net before.rules target halves node)
   spends_there before now setting node r target halves on tells at =
       let R : Circuit → Rules → Type 0 = λ c rules. IsRightInSpent c rules target halves node in
-      let Q : Circuit → Rules → Type 0 = λ c rules. All (λ half. IsInSupport c rules target.path half.source) halves in
+      let Q : Circuit → Rules → Type 0 = λ c rules. All (λ half. IsInSupport c rules target.path half.split.line.0) halves in
       let shows = tells halves (record { at = at; in_support = subst₂ Q (sym setting.net) (sym setting.rules) on }) in (
         λ yes. subst₂ R setting.net setting.rules (shows.0 yes),
         λ told right. shows.1 (support_told_there before now setting target.path told) (subst₂ R (sym setting.net) (sym setting.rules) right),
       )
 
--- of which sources it is does not matter there
-pub splits_on_any : (node : Node) → SplitsOn (λ source. Unit {0}) node
+-- at which line it is does not matter there
+pub splits_on_any : (node : Node) → SplitsOn (λ line. Unit {0}) node
 splits_on_any Closed = tt
 splits_on_any Waiting = tt
-splits_on_any (Value source) = tt
-splits_on_any (Steadiness source) = tt
+splits_on_any (Split split) = tt
 
--- a split that is right in a spent tree is on a source of the support
+-- a split that is right in a spent tree is at a source of the support
 pub spent_splits_on : (c : Circuit) (rules : Rules) (target : Target) (halves : List Half) (node : Node)
     → IsRightInSpent c rules target halves node → SplitsOn (IsInSupport c rules target.path) node
 spent_splits_on c rules target halves Closed right = tt
 spent_splits_on c rules target halves Waiting right = tt
-spent_splits_on c rules target halves (Value source) right = right.in_support
-spent_splits_on c rules target halves (Steadiness source) right = right.in_support
+spent_splits_on c rules target halves (Split split) right = right.in_support
 
 -- what is told of the nodes tells whether the tree refutes
 pub refutation_of_nodes : (c : Circuit) (rules : Rules) (target : Target) (nodes : List Node) (check : TreeCheck)

@@ -8,7 +8,7 @@ use Rattle.netlist.specs.Circuit.{Circuit}
 use Rattle.state_sets.specs.StateAlgebra.{StateAlgebra}
 use Rattle.pd_base.specs.Links.{links_of}
 use Rattle.state_sets.specs.Hulls.{IsNarrowingOf, IsEmptied}
-use Rattle.state_laws.specs.declared.half.Half.{Half}
+use Rattle.state_laws.specs.declared.split.Half.{Half}
 use Rattle.state_laws.specs.Nodes.{MayBe, ClosesAtNode}
 use Rattle.state_laws.proofs.Hulls.{emptied_if_wider, widens_by_states}
 use Rattle.state_laws.proofs.Restart.{may_be_above}

@@ -14,7 +14,7 @@ use Rattle.pd_base.specs.declared.rules.Rules.{Rules}
 use Rattle.implication.specs.NodeScopes.{beginning_of}
 use Rattle.implication.proofs.ScopeLabels.{labels_under}
 use Rattle.implication.proofs.NodeScopes.{hull_at_node, closes_under}
-use Rattle.state_laws.specs.declared.half.Half.{Half}
+use Rattle.state_laws.specs.declared.split.Half.{Half}
 use Rattle.state_laws.specs.Nodes.{MayBe, IsNodeHull, ClosesAtNode}
 use Rattle.std.specs.Prelude.{Bool, IfNone, IfSome, IsTrue, is_some, ◌↔◌}
 use Rattle.std.proofs.lemmas.Bool.{false≢true}

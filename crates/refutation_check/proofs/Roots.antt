@@ -9,11 +9,11 @@ use Rattle.pd_base.specs.declared.fault.Direction.{Direction}
 use Rattle.pd_base.specs.declared.fault.Kind.{Kind}
 use Rattle.pd_base.specs.Route.{Route}
 use Rattle.pd_base.specs.Target.{Target, target_of}
-use Rattle.netlist.specs.Circuit.{source_count}
+use Rattle.netlist.specs.Circuit.{line_count}
 use Rattle.netlist.specs.Paths.{prefix_of}
 use Rattle.path_laws.proofs.Prefixes.{prefix_of-is_prefix}
 use Rattle.state_sets.specs.StateAlgebra.{StateAlgebra}
-use Rattle.state_laws.specs.declared.half.Half.{Half}
+use Rattle.state_laws.specs.declared.split.Half.{Half}
 use Rattle.state_laws.proofs.Hulls.{prefix_empties}
 use Rattle.implication.specs.declared.assumption.Assumption.{Assumption}
 use Rattle.implication.specs.declared.assumption.Assumption.TheVariants.{Entered}
@@ -41,7 +41,7 @@ module _ (a : StateAlgebra) where
         let P : List Assumption → Type 0 = λ l. AllowAsNode a now.net now.rules target l [] in
         record {
           beginning = began;
-          on_sources = All-nil (λ (half : Half). half.source < source_count now.net);
+          on_lines = All-nil (λ (half : Half). half.split.line.0 < line_count now.net);
           is_node = subst (IsNodeBy a target [] now) (sym has.free) (record {
             entered = ap entered_pins list ∙ pins_of_entered prefix.steps;
             allows = subst P (sym list) (start_allows a now.net now.rules target prefix.steps);
@@ -61,7 +61,7 @@ module _ (a : StateAlgebra) where
         closes_at_line a first [] now began (ap entered_pins list ∙ pins_of_entered (take count prefix.steps)) allows line emptied in
         record {
           beginning = began;
-          on_sources = All-nil (λ (half : Half). half.source < source_count now.net);
+          on_lines = All-nil (λ (half : Half). half.split.line.0 < line_count now.net);
           is_node = subst (IsNodeBy a target [] now) (sym stands) (
             closes.0,
             prefix_empties a now.net now.rules (prefix_of count prefix) prefix (prefix_of-is_prefix count prefix) direction kind [] line.0

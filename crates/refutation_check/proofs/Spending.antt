@@ -15,10 +15,12 @@ use Rattle.state_sets.specs.declared.state.StateSet.{StateSet}
 use Rattle.state_sets.specs.StateAlgebra.{StateAlgebra}
 use Rattle.state_sets.specs.Labellings.{label_at}
 use Rattle.state_sets.specs.Hulls.{IsNarrowingOf}
-use Rattle.state_laws.specs.declared.half.Half.{Half}
+use Rattle.state_laws.specs.declared.split.Split.{Split}
+use Rattle.state_laws.specs.declared.split.Half.{Half}
 use Rattle.state_laws.specs.Nodes.{MayBe, ClosesAtNode}
 use Rattle.state_laws.proofs.Hulls.{hull_once, not_closing}
 use Rattle.trees.specs.Algebras.{algebra_of}
+use Rattle.trees.specs.Trees.{IsSourceKind}
 use Rattle.trees.specs.Spent.{IsInSupport, IsOpen, IsDue, HasInHalf}
 use Rattle.implication.specs.declared.assumption.Conflict.{Conflict}
 use Rattle.implication.specs.Standing.{Standing, IsLabels, IsSupportTold, IsTold}
@@ -64,7 +66,7 @@ cone_under c rules end cone linked at line =
     let P : LinkList → Type 0 = λ ls. Contains cone.found.lines (record { 0 = line }) ↔ IsSupported c ls end line in
     subst P linked (at.lines line)
 
-module _ (target : Target) (halves : List Half) (standing : Standing) (steadiness : Bool) (source : ℕ) where
+module _ (target : Target) (halves : List Half) (standing : Standing) (split : Split) where
   abbrev a : StateAlgebra
   a = algebra_of standing.rules
 
@@ -72,7 +74,7 @@ module _ (target : Target) (halves : List Half) (standing : Standing) (steadines
   Told = IsSupportTold standing (end_of standing.net target.path)
 
   abbrev Due : Type 0
-  Due = IsDue standing.net standing.rules target halves steadiness source
+  Due = IsDue standing.net standing.rules target halves split
 
   abbrev OpenThere : Type 0
   OpenThere = (hull : List StateSet) × IsOpen standing.net standing.rules target halves hull
@@ -93,28 +95,32 @@ module _ (target : Target) (halves : List Half) (standing : Standing) (steadines
         λ told due. absurd (closing_not_open line stands (subst P chosen at) due.hull due.is_open),
       )
 
-  -- nor is one that is not on a source of the support
-  pub outside_not_due : (IsInSupport standing.net standing.rules target.path source → ⊥) → Shows Told false Due
+  -- nor is one that is not at a source of the support
+  pub outside_not_due : (IsInSupport standing.net standing.rules target.path split.line.0 → ⊥) → Shows Told false Due
   outside_not_due outside = (λ never. absurd (false≢true never), λ told due. absurd (outside due.in_support))
 
-  -- nor is there one, where the whole support is told, on a source that is not
-  pub untold_not_due : (IsTold standing source → ⊥) → Shows Told false Due
-  untold_not_due untold = (λ never. absurd (false≢true never), λ told due. absurd (untold (told source due.in_support.supported)))
+  -- nor is one by first values
+  pub other_kind_not_due : (IsSourceKind split.kind → ⊥) → Shows Told false Due
+  other_kind_not_due other = (λ never. absurd (false≢true never), λ told due. absurd (other due.kind))
+
+  -- nor is there one, where the whole support is told, at a source that is not
+  pub untold_not_due : (IsTold standing split.line.0 → ⊥) → Shows Told false Due
+  untold_not_due untold = (λ never. absurd (false≢true never), λ told due. absurd (untold (told split.line.0 due.in_support.supported)))
 
   -- what is known where the scope has labels: of the set of the source, whether it has a state of each half
   pub record IsSeenAt (b : StateAlgebra) (labels : List StateSet) (set : StateSet) (both : Bool) : Type 0 where
     pub at : IsScopeAt b target halves standing
     pub labelled : IsLabels b standing labels
-    pub seen : set ≡ label_at labels source
-    pub tells : IsTrue both ↔ (HasInHalf b set steadiness false × HasInHalf b set steadiness true)
+    pub seen : set ≡ label_at labels split.line.0
+    pub tells : IsTrue both ↔ (HasInHalf b set split.kind false × HasInHalf b set split.kind true)
 
   module _ (free : standing.conflict ≡ None) (labels : List StateSet) (set : StateSet) (both : Bool) where
     -- the set of the source in the hull of an open node
     same_set : IsSeenAt a labels set both → (hull : List StateSet) → IsOpen standing.net standing.rules target halves hull
-        → label_at hull source ≡ set
+        → label_at hull split.line.0 ≡ set
     same_set is hull open_here =
         let own = hull_of a target halves standing is.at (node_of a target halves standing is.at free) labels is.labelled in
-        ap (λ (h : List StateSet). label_at h source)
+        ap (λ (h : List StateSet). label_at h split.line.0)
         (hull_once a standing.net (IsNarrowingOf standing.net (links_of standing.rules) target.kind target.path.steps)
         (MayBe a standing.net standing.rules target halves) hull open_here.is_hull labels own)
         ∙ sym is.seen
@@ -124,14 +130,14 @@ module _ (target : Target) (halves : List Half) (standing : Standing) (steadines
       λ never. absurd (false≢true never),
       λ told due.
           let same = same_set is due.hull due.is_open in
-          let first = subst (λ (s : StateSet). HasInHalf a s steadiness false) same due.in_first in
-          let second = subst (λ (s : StateSet). HasInHalf a s steadiness true) same due.in_second in
+          let first = subst (λ (s : StateSet). HasInHalf a s split.kind false) same due.in_first in
+          let second = subst (λ (s : StateSet). HasInHalf a s split.kind true) same due.in_second in
           absurd (false≢true (sym lacks ∙ is.tells.1 (first, second))),
     )
 
-    having : IsSeenAt a labels set both → both ≡ true → IsInSupport standing.net standing.rules target.path source → (tried : Bool)
-        → Shows Told tried OpenThere → Shows Told tried Due
-    having is has support tried open_tells = (
+    having : IsSeenAt a labels set both → both ≡ true → IsInSupport standing.net standing.rules target.path split.line.0 → IsSourceKind split.kind
+        → (tried : Bool) → Shows Told tried OpenThere → Shows Told tried Due
+    having is has support kind tried open_tells = (
       λ yes.
           let parts = is.tells.0 has in
           let here = open_tells.0 yes in
@@ -140,8 +146,9 @@ module _ (target : Target) (halves : List Half) (standing : Standing) (steadines
             hull = here.0;
             is_open = here.1;
             in_support = support;
-            in_first = subst (λ (s : StateSet). HasInHalf a s steadiness false) (sym same) parts.0;
-            in_second = subst (λ (s : StateSet). HasInHalf a s steadiness true) (sym same) parts.1;
+            kind = kind;
+            in_first = subst (λ (s : StateSet). HasInHalf a s split.kind false) (sym same) parts.0;
+            in_second = subst (λ (s : StateSet). HasInHalf a s split.kind true) (sym same) parts.1;
           },
       λ told due. open_tells.1 told (due.hull, due.is_open),
     )
@@ -150,9 +157,9 @@ module _ (target : Target) (halves : List Half) (standing : Standing) (steadines
     pub lacking_not_due : (b : StateAlgebra) → b ≡ a → IsSeenAt b labels set both → both ≡ false → Shows Told false Due
     lacking_not_due b chosen is = let P : StateAlgebra → Type 0 = λ k. IsSeenAt k labels set both in lacking (subst P chosen is)
 
-    -- with both it is due, on a source of the support, just where the node is open
+    -- with both it is due, at a source of the support and not by first values, just where the node is open
     pub open_due : (b : StateAlgebra) → b ≡ a → IsSeenAt b labels set both → both ≡ true
-        → IsInSupport standing.net standing.rules target.path source → (tried : Bool)
+        → IsInSupport standing.net standing.rules target.path split.line.0 → IsSourceKind split.kind → (tried : Bool)
         → Shows Told tried OpenThere → Shows Told tried Due
     open_due b chosen is = let P : StateAlgebra → Type 0 = λ k. IsSeenAt k labels set both in having (subst P chosen is)
 

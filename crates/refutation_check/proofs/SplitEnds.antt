@@ -1,4 +1,4 @@
--- The ends of the engine that judges a tree: as the sources that the tree splits come to them, those that are there stay, and all of them
+-- The ends of the engine that judges a tree: as the lines that the tree splits come to them, those that are there stay, and all of them
 -- are lines; and what an engine tells that has them.
 use Rattle.std.proofs.Common.{◌≡◌, ℕ, ◌<◌, Bool, List, Option, Some, get_or, sym, subst, subst₂}
 use Rattle.std.specs.List.{All, Contains}
@@ -6,10 +6,10 @@ use Rattle.pd_base.specs.Links.{links_of}
 use Rattle.pd_base.specs.Route.{Route}
 use Rattle.pd_base.specs.declared.ids.LineId.{LineId}
 use Rattle.pd_base.specs.declared.rules.Rules.{Rules}
-use Rattle.netlist.specs.Circuit.{Circuit, source_count}
+use Rattle.netlist.specs.Circuit.{Circuit, line_count}
 use Rattle.netlist.specs.Paths.{end_of}
 use Rattle.trees.specs.declared.tree.Node.{Node}
-use Rattle.trees.specs.declared.tree.Node.TheVariants.{Closed, Waiting, Value, Steadiness}
+use Rattle.trees.specs.declared.tree.Node.TheVariants.{Closed, Waiting, Split}
 use Rattle.implication.specs.Standing.{Standing, ToldEnds, told_ends, IsTold, IsToldBy}
 use Rattle.implication.proofs.Told.{end_told}
 use Rattle.refutation_check.specs.SplitEnds.{IsEndAt, AddsEnds}
@@ -29,8 +29,7 @@ adds_twice count first middle last one two = record {
 pub end_still : (count : ℕ) (old new : List LineId) → AddsEnds count old new → (node : Node) → IsEndAt count old node → IsEndAt count new node
 end_still count old new adds Closed is = tt
 end_still count old new adds Waiting is = tt
-end_still count old new adds (Value source) is = λ within. adds.still (record { 0 = source }) (is within)
-end_still count old new adds (Steadiness source) is = λ within. adds.still (record { 0 = source }) (is within)
+end_still count old new adds (Split split) is = λ within. adds.still split.line (is within)
 
 module _ (standing : Standing) (c : Circuit) (rules : Rules) (ends : List LineId) (near : Bool) (net : standing.net ≡ c) (same_rules : standing.rules ≡ rules)
     (within : standing.ends ≡ Some (told_ends ends near)) where
@@ -45,17 +44,12 @@ module _ (standing : Standing) (c : Circuit) (rules : Rules) (ends : List LineId
   own_end_told path among =
       let P : Circuit → Type 0 = λ n. IsTold standing (end_of n path) in subst P (sym net) (told_there (record { 0 = end_of c path }) among)
 
-  -- so is each source that a node splits
-  source_told : (source : ℕ) → (source < source_count c → Contains ends (record { 0 = source })) → source < source_count standing.net
-      → IsTold standing source
-  source_told source is inside =
-      let P : Circuit → Type 0 = λ n. source < source_count n in told_there (record { 0 = source }) (is (subst P net inside))
-
-  split_told : (node : Node) → IsEndAt (source_count c) ends node → IsToldAt standing node
+  -- so is each line that a node splits
+  split_told : (node : Node) → IsEndAt (line_count c) ends node → IsToldAt standing node
   split_told Closed is = tt
   split_told Waiting is = tt
-  split_told (Value source) is = source_told source is
-  split_told (Steadiness source) is = source_told source is
+  split_told (Split split) is = λ inside.
+      let P : Circuit → Type 0 = λ n. split.line.0 < line_count n in told_there split.line (is (subst P net inside))
 
-  pub splits_told : (nodes : List Node) → All (IsEndAt (source_count c) ends) nodes → All (IsToldAt standing) nodes
+  pub splits_told : (nodes : List Node) → All (IsEndAt (line_count c) ends) nodes → All (IsToldAt standing) nodes
   splits_told nodes are place d inside = split_told (get_or nodes place d) (are place d inside)

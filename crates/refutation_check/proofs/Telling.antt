@@ -14,7 +14,7 @@ use Rattle.netlist.specs.Values.{value}
 use Rattle.path_laws.proofs.GateValues.{value_of_source}
 use Rattle.path_laws.proofs.StepCounts.{line_after_in_circuit}
 use Rattle.state_sets.specs.declared.state.StateSet.{StateSet}
-use Rattle.state_laws.specs.declared.half.Half.{Half}
+use Rattle.state_laws.specs.declared.split.Half.{Half}
 use Rattle.state_laws.specs.Nodes.{MayBe}
 use Rattle.state_laws.proofs.Pairs.{kept_at_node, node_never_closes}
 use Rattle.state_laws.proofs.Deciding.{rest_decides}

@@ -20,7 +20,7 @@ use Rattle.state_sets.specs.StateAlgebra.{StateAlgebra}
 use Rattle.state_sets.specs.LineStates.{state_under}
 use Rattle.state_sets.specs.Labellings.{label_at}
 use Rattle.state_sets.specs.Hulls.{IsNarrowingOf, HasNoEmptySet}
-use Rattle.state_laws.specs.declared.half.Half.{Half}
+use Rattle.state_laws.specs.declared.split.Half.{Half}
 use Rattle.state_laws.specs.Nodes.{MayBe, IsNodeHull}
 use Rattle.state_laws.proofs.Hulls.{hull_once}
 use Rattle.trees.specs.Algebras.{algebra_of}

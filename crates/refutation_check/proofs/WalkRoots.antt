@@ -2,7 +2,7 @@
 use Rattle.std.proofs.Common.{◌≡◌, ⊎_elim, ℕ, ◌<◌, ◌≤◌, List, [], ◌∷◌, ◌++◌, reverse, length, take, None, refl, sym, ap, ◌∙◌, subst, arith}
 use Rattle.std.proofs.lemmas.Bool.{cases_lt, lt-ltb, le-ltb}
 use Rattle.std.proofs.lemmas.List.{reverse-append, take-take, length-take-le}
-use Rattle.netlist.specs.Circuit.{source_count}
+use Rattle.netlist.specs.Circuit.{line_count}
 use Rattle.implication.specs.Clients.{ExtendsStanding}
 use Rattle.implication.specs.Moves.{conflict_at, back_at}
 use Rattle.implication.specs.Settings.{IsSameSetting}
@@ -11,7 +11,7 @@ use Rattle.implication.proofs.Restoring.{extends_itself, extends_trans}
 use Rattle.refutation_check.specs.declared.walk.Pending.{Pending}
 use Rattle.refutation_check.specs.Walks.{LeadBack, IsWalkFrom}
 use Rattle.implication.proofs.Settings.{told_there}
-use Rattle.refutation_check.proofs.SameSettings.{source_there}
+use Rattle.refutation_check.proofs.SameSettings.{line_there}
 
 -- what stands at the root is the setting of what goes on from it
 setting_on : (root now : Standing) → ExtendsStanding root now → IsSameSetting root now
@@ -53,7 +53,7 @@ lead_from_more root count more (pending ∷ rest) fewer (leads, lead) = (
   record {
     before = let le = leads.before in omega (arith, le, fewer);
     not_above_root = leads.not_above_root;
-    source = leads.source;
+    in_circuit = leads.in_circuit;
     told = leads.told;
   },
   lead,
@@ -66,8 +66,8 @@ walk_begins root pending none =
     subst P (sym none) (record { extends = extends_itself root; back = tt })
 
 -- down into the first half of a split
-pub root_down : (root old new : Standing) (pending more : List Pending) (second : Pending) → second.half.source < source_count old.net
-    → IsTold old second.half.source → second.mark.at ≡ length old.assumptions → more ≡ pending ++ second ∷ [] → ExtendsStanding old new
+pub root_down : (root old new : Standing) (pending more : List Pending) (second : Pending) → second.half.split.line.0 < line_count old.net
+    → IsTold old second.half.split.line.0 → second.mark.at ≡ length old.assumptions → more ≡ pending ++ second ∷ [] → ExtendsStanding old new
     → IsWalkFrom root old pending → IsWalkFrom root new more
 root_down root old new pending more second within told marked pushed extends walk =
     let P : List Pending → Type 0 = λ list. LeadBack root (length new.assumptions) list in
@@ -79,8 +79,8 @@ root_down root old new pending more second within told marked pushed extends wal
         record {
           before = let longer = extends.longer in omega (arith, marked, longer);
           not_above_root = let longer = walk.extends.longer in omega (arith, marked, longer);
-          source = source_there old root setting second.half.source within;
-          told = told_there old root setting second.half.source told;
+          in_circuit = line_there old root setting second.half.split.line.0 within;
+          told = told_there old root setting second.half.split.line.0 told;
         },
         subst Q (sym marked) walk.back,
       );
@@ -100,12 +100,12 @@ module _ (root now : Standing) (next : Pending) (pending all : List Pending) (is
     extends_there : ExtendsStanding root back
     extends_there = extends_back root now back next.mark.at walk.extends lead.0.not_above_root lead.0.before goes
 
-    -- its half is on a source there, which is told
-    pub source_within : next.half.source < source_count back.net
-    source_within = source_there root back (setting_on root back extends_there) next.half.source lead.0.source
+    -- its half is of a line of the circuit there, which is told
+    pub line_within : next.half.split.line.0 < line_count back.net
+    line_within = line_there root back (setting_on root back extends_there) next.half.split.line.0 lead.0.in_circuit
 
-    pub told_within : IsTold back next.half.source
-    told_within = told_there root back (setting_on root back extends_there) next.half.source lead.0.told
+    pub told_within : IsTold back next.half.split.line.0
+    told_within = told_there root back (setting_on root back extends_there) next.half.split.line.0 lead.0.told
 
     -- and round behind a leaf
     pub root_round : (new : Standing) → ExtendsStanding back new → IsWalkFrom root new pending

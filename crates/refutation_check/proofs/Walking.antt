@@ -1,6 +1,6 @@
 -- The steps of a walk: a half assumed at a node leads to the node below it, and going back to the mark of a half that was put off leads to
 -- the node above it.
-use Rattle.std.proofs.Common.{◌≡◌, ℕ, ◌<◌, Bool, true, false, cond, inr, List, [], ◌∷◌, ◌++◌, reverse, length, Option, Some, None}
+use Rattle.std.proofs.Common.{◌≡◌, ℕ, ◌<◌, true, false, cond, inr, List, [], ◌∷◌, ◌++◌, reverse, length, Option, Some, None}
 use Rattle.std.proofs.Common.{Result, Ok, Err, IfErr, OnOk, refl, sym, ap, ◌∙◌, subst, subst₂}
 use Rattle.std.specs.List.{All}
 use Rattle.std.specs.Prelude.{IfSome, is_some}
@@ -9,11 +9,13 @@ use Rattle.std.proofs.lemmas.List.Elements.{All-push}
 use Rattle.pd_base.specs.Target.{Target}
 use Rattle.pd_base.specs.declared.ids.LineId.{LineId}
 use Rattle.pd_base.specs.declared.rules.Rules.{Rules}
-use Rattle.netlist.specs.Circuit.{Circuit, source_count}
+use Rattle.netlist.specs.Circuit.{Circuit, line_count}
 use Rattle.state_sets.specs.declared.state.StateSet.{StateSet}
 use Rattle.state_sets.specs.StateAlgebra.{StateAlgebra}
-use Rattle.state_laws.specs.declared.half.Half.{Half}
-use Rattle.trees.specs.Halves.{halves_of, turns}
+use Rattle.state_laws.specs.declared.split.Split.{Split}
+use Rattle.state_laws.specs.declared.split.Half.{Half}
+use Rattle.state_laws.specs.Halves.{half_of}
+use Rattle.trees.specs.Halves.{halves_of, turned, turns}
 use Rattle.implication.specs.declared.assumption.Assumption.{Assumption}
 use Rattle.implication.specs.declared.assumption.Conflict.{Conflict}
 use Rattle.implication.specs.Assumptions.{entered_pins, ClosesUnder}
@@ -30,14 +32,11 @@ use Rattle.refutation_check.specs.Walks.{ClosesAtLine, IsNodeBy, IsScopeAt, IsPe
 use Rattle.refutation_check.proofs.Closing.{closes_below, closes_at_line}
 
 module _ (a : StateAlgebra) where
-  -- what was assumed of the source of a half, at a node
+  -- what was assumed of the line of a half, at a node
   module _ (old new : Standing) (half : Half) (set : StateSet) (states : IsStatesOf a half set) (target : Target) (halves : List Half)
       (extends : ExtendsStanding old new) where
-    abbrev source : LineId
-    source = record { 0 = half.source }
-
     abbrev list : List Assumption
-    list = with_assumed a.count old.assumptions source set
+    list = with_assumed a.count old.assumptions half.split.line set
 
     -- with that, lines may be in the states of the node below, in the new standing
     allows_there : AllowAsNode a old.net old.rules target old.assumptions halves → new.assumptions ≡ list
@@ -46,11 +45,11 @@ module _ (a : StateAlgebra) where
         let P : Circuit → Rules → Type 0 = λ c rules. AllowAsNode a c rules target new.assumptions (halves ++ half ∷ []) in
         let Q : List Assumption → Type 0 = λ l. AllowAsNode a old.net old.rules target l (halves ++ half ∷ []) in
         subst₂ P (sym extends.net) (sym extends.rules)
-        (subst Q (sym is) (half_assumed a old.net old.rules target old.assumptions halves half source set refl states allows))
+        (subst Q (sym is) (half_assumed a old.net old.rules target old.assumptions halves half set states allows))
 
     entered_there : entered_pins old.assumptions ≡ target.path.steps → new.assumptions ≡ list
         → entered_pins new.assumptions ≡ target.path.steps
-    entered_there entered is = ap entered_pins is ∙ entered_assumed a.count old.assumptions source set ∙ entered
+    entered_there entered is = ap entered_pins is ∙ entered_assumed a.count old.assumptions half.split.line set ∙ entered
 
     -- a conflict that stood still does
     held_node : (line : LineId) → new ≡ old → IsNodeBy a target halves old (Some line) → IsNodeBy a target (halves ++ half ∷ []) new (Some line)
@@ -85,17 +84,18 @@ module _ (a : StateAlgebra) where
         (allows_there node.allows is) conflict.0 emptied)
 
     -- the scope is at the node below
-    pub at_below : {T : Type 0} (answer : Result T Conflict) → half.source < source_count old.net → IsScopeAt a target halves old
+    pub at_below : {T : Type 0} (answer : Result T Conflict) → half.split.line.0 < line_count old.net → IsScopeAt a target halves old
         → IfSome old.conflict (λ line. (answer ≡ Err (record { 0 = line })) × (new ≡ old))
         → OnOk answer (new ≡ grown old list)
         → (IsFree old → IfErr answer (λ c. new ≡ closed_at old list c.0))
         → OnOk answer (IsOpenIn a new) → IfErr answer (λ c. IsEmptiedIn a new c.0.0)
         → IsScopeAt a target (halves ++ half ∷ []) new
     at_below answer within at held ok err left_open emptied =
-        let P : Circuit → Type 0 = λ c. All (λ (h : Half). h.source < source_count c) (halves ++ half ∷ []) in
+        let P : Circuit → Type 0 = λ c. All (λ (h : Half). h.split.line.0 < line_count c) (halves ++ half ∷ []) in
         record {
           beginning = extends.beginning ∙ at.beginning;
-          on_sources = subst P (sym extends.net) (All-push (λ (h : Half). h.source < source_count old.net) halves half at.on_sources within);
+          on_lines =
+              subst P (sym extends.net) (All-push (λ (h : Half). h.split.line.0 < line_count old.net) halves half at.on_lines within);
           is_node = below_by answer old.conflict refl at.beginning at.is_node held ok err left_open emptied;
         }
 
@@ -104,8 +104,8 @@ module _ (a : StateAlgebra) where
       → IsScopeAt a target halves new
   at_restored target halves old new restored at = record {
     beginning = restored.beginning ∙ at.beginning;
-    on_sources =
-        let P : Circuit → Type 0 = λ c. All (λ (h : Half). h.source < source_count c) halves in subst P (sym restored.net) at.on_sources;
+    on_lines =
+        let P : Circuit → Type 0 = λ c. All (λ (h : Half). h.split.line.0 < line_count c) halves in subst P (sym restored.net) at.on_lines;
     is_node = subst (IsNodeBy a target halves new) (sym restored.conflict) (by old.conflict at.is_node);
   }
     where
@@ -152,7 +152,7 @@ module _ (a : StateAlgebra) where
       record {
         first = is.first;
         second = is.second;
-        source = is.source;
+        in_circuit = is.in_circuit;
         told = is.told;
         mark = is.mark;
         extends = extends_trans before old new is.extends extends;
@@ -164,30 +164,29 @@ module _ (a : StateAlgebra) where
     -- below a second half the same places are due, and below a first half its second one too
     turns_second : (half : Half) (above : List Half) → half.second ≡ true → turns (half ∷ above) ≡ turns above
     turns_second half above second =
-        ap (λ b. cond b (turns above) ((record { source = half.source; steadiness = half.steadiness; second = true } ∷ above) ∷ turns above))
-        second
+        ap (λ b. cond b (turns above) ((turned half ∷ above) ∷ turns above)) second
 
     -- down into the first half of a split
-    pub goes_down : (old new : Standing) (above : List Half) (source : ℕ) (steadiness : Bool) (pending more : List Pending) (second : Pending)
-        → source < source_count old.net → IsTold old source
-        → second.half ≡ record { source = source; steadiness = steadiness; second = true } → second.mark.at ≡ length old.assumptions
+    pub goes_down : (old new : Standing) (above : List Half) (split : Split) (pending more : List Pending) (second : Pending)
+        → split.line.0 < line_count old.net → IsTold old split.line.0
+        → second.half ≡ half_of split true → second.mark.at ≡ length old.assumptions
         → more ≡ pending ++ second ∷ [] → ExtendsStanding old new
-        → IsScopeAt a target (halves_of above ++ (record { source = source; steadiness = steadiness; second = false }) ∷ []) new
+        → IsScopeAt a target (halves_of above ++ half_of split false ∷ []) new
         → WalksAt a target above old pending
-        → WalksAt a target ((record { source = source; steadiness = steadiness; second = false }) ∷ above) new more
-    goes_down old new above source steadiness pending more second within told of_half marked pushed extends at walks = record {
+        → WalksAt a target (half_of split false ∷ above) new more
+    goes_down old new above split pending more second within told of_half marked pushed extends at walks = record {
       at = at;
       due =
           let P : List Pending → Type 0 = λ list. ArePending a target new list
-          ((record { source = source; steadiness = steadiness; second = true } ∷ above) ∷ turns above) in
+          ((half_of split true ∷ above) ∷ turns above) in
           subst P (sym (ap (reverse {A = Pending}) pushed ∙ reverse-append pending (second ∷ []))) (
             above,
             old,
             record {
               first = ap (λ (h : Half). (h ∷ above) ∷ turns above) (sym of_half);
               second = ap (λ (h : Half). h.second) of_half;
-              source = let Q : Half → Type 0 = λ h. h.source < source_count old.net in subst Q (sym of_half) within;
-              told = let Q : Half → Type 0 = λ h. IsTold old h.source in subst Q (sym of_half) told;
+              in_circuit = let Q : Half → Type 0 = λ h. h.split.line.0 < line_count old.net in subst Q (sym of_half) within;
+              told = let Q : Half → Type 0 = λ h. IsTold old h.split.line.0 in subst Q (sym of_half) told;
               mark = marked;
               extends = extends;
               at = walks.at;

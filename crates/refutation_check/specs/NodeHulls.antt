@@ -17,8 +17,8 @@ use Rattle.state_sets.specs.Labellings.{label_at}
 use Rattle.state_sets.specs.StateAlgebra.{StateAlgebra}
 use Rattle.state_sets.specs.Hulls.{HasNoEmptySet}
 use Rattle.state_sets.specs.LineStates.{state_under}
-use Rattle.state_sets.specs.Starts.{IsInHalf}
-use Rattle.state_laws.specs.declared.half.Half.{Half}
+use Rattle.state_laws.specs.declared.split.Half.{Half}
+use Rattle.state_laws.specs.Halves.{LiesInHalf}
 use Rattle.state_laws.specs.Nodes.{IsNodeHull, IsEmptiedAtNode}
 use Rattle.state_laws.specs.Pairs.{HasPair, IsGiven}
 use Rattle.state_laws.specs.Steadied.{KeepsRules}
@@ -50,13 +50,12 @@ pub record IsAtNode (c : Circuit) (rules : Rules) (target : Target) (halves : Li
   pub kind : IsKindOf rules hull
   pub found : IsFoundAt (algebra_of rules) c rules target halves (found_of hull)
 
--- the pair is one of the rules and a test for the target, the other sources start under it as the rules leave them, and the state of the
--- source of each half is in the half
+-- the pair is one of the rules and a test for the target, the other sources start under it as the rules leave them, and it lies in each half
 pub record IsPairBelow (c : Circuit) (rules : Rules) (target : Target) (halves : List Half) (pair : Vectors) : Type 0 where
   pub of_rules : IsOfRules c rules pair
   pub meets : Meets c target pair
   pub keeps : KeepsRules (algebra_of rules) c rules target.path.source.0 pair
-  pub lies : All (λ half. IsInHalf (algebra_of rules) half.steadiness half.second (state_under (algebra_of rules) c pair half.source)) halves
+  pub lies : All (LiesInHalf (algebra_of rules) c pair) halves
 
 -- no such pair is lost: the hull has the states of each; and where a line is emptied there is none
 abbrev pub LosesNone : Circuit → Rules → Target → List Half → Result (List StateSet) LineId → Type 0

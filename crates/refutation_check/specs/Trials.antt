@@ -13,7 +13,7 @@ use Rattle.state_sets.specs.declared.state.State.{State}
 use Rattle.state_sets.specs.declared.state.StateSet.{StateSet}
 use Rattle.state_sets.specs.Labellings.{label_at}
 use Rattle.state_sets.specs.StateAlgebra.{StateAlgebra}
-use Rattle.state_laws.specs.declared.half.Half.{Half}
+use Rattle.state_laws.specs.declared.split.Half.{Half}
 use Rattle.state_laws.specs.FailedTrials.{FailsTrial}
 use Rattle.trees.specs.Algebras.{algebra_of}
 use Rattle.trees.specs.Spent.{IsInSupport}
@@ -68,4 +68,4 @@ Shows told answer fact = (IsTrue answer → fact) × (told → fact → IsTrue a
 -- the scope is at the node of a tree for this target below these halves, which are of sources of the support
 pub record IsScopeInSupport (a : StateAlgebra) (target : Target) (halves : List Half) (standing : Standing) : Type 0 where
   pub at : IsScopeAt a target halves standing
-  pub in_support : All (λ half. IsInSupport standing.net standing.rules target.path half.source) halves
+  pub in_support : All (λ half. IsInSupport standing.net standing.rules target.path half.split.line.0) halves

@@ -4,12 +4,13 @@ use Rattle.std.specs.Prelude.{◌≡◌, ⊤, ℕ, ◌<◌, ◌≤◌, ◌⊎◌
 use Rattle.pd_base.specs.Target.{Target}
 use Rattle.pd_base.specs.declared.ids.LineId.{LineId}
 use Rattle.pd_base.specs.declared.rules.Rules.{Rules}
-use Rattle.netlist.specs.Circuit.{Circuit, source_count, line_count}
+use Rattle.netlist.specs.Circuit.{Circuit, line_count}
 use Rattle.state_sets.specs.StateAlgebra.{StateAlgebra}
-use Rattle.state_laws.specs.declared.half.Half.{Half}
+use Rattle.state_laws.specs.declared.split.Half.{Half}
+use Rattle.state_laws.specs.Halves.{half_of}
 use Rattle.state_laws.specs.Nodes.{IsEmptiedAtNode}
 use Rattle.trees.specs.declared.tree.Node.{Node}
-use Rattle.trees.specs.declared.tree.Node.TheVariants.{Closed, Waiting, Value, Steadiness}
+use Rattle.trees.specs.declared.tree.Node.TheVariants.{Closed, Waiting, Split}
 use Rattle.trees.specs.Halves.{halves_of, turns}
 use Rattle.implication.specs.Assumptions.{entered_pins, ClosesUnder}
 use Rattle.implication.specs.Clients.{ExtendsStanding}
@@ -33,10 +34,10 @@ abbrev pub IsNodeBy : StateAlgebra → Target → List Half → Standing → Opt
 IsNodeBy a target halves standing None = IsOpenNode a target halves standing
 IsNodeBy a target halves standing (Some line) = ClosesAtLine a standing.net standing.rules target halves line
 
--- the scope is at the node of a tree for this target below these halves, which are of sources
+-- the scope is at the node of a tree for this target below these halves, which are of lines of the circuit
 pub record IsScopeAt (a : StateAlgebra) (target : Target) (halves : List Half) (standing : Standing) : Type 0 where
   pub beginning : standing.beginning ≡ Some (beginning_of target)
-  pub on_sources : All (λ half. half.source < source_count standing.net) halves
+  pub on_lines : All (λ half. half.split.line.0 < line_count standing.net) halves
   pub is_node : IsNodeBy a target halves standing standing.conflict
 
 -- A half was put off at a node below these halves, when the scope stood so; going back to the half's mark restores that. It is the first
@@ -44,8 +45,8 @@ pub record IsScopeAt (a : StateAlgebra) (target : Target) (halves : List Half) (
 pub record IsPending (a : StateAlgebra) (target : Target) (pending : Pending) (above : List Half) (before now : Standing) (places : List (List Half)) : Type 0 where
   pub first : places ≡ (pending.half ∷ above) ∷ turns above
   pub second : pending.half.second ≡ true
-  pub source : pending.half.source < source_count before.net
-  pub told : IsTold before pending.half.source
+  pub in_circuit : pending.half.split.line.0 < line_count before.net
+  pub told : IsTold before pending.half.split.line.0
   pub mark : pending.mark.at ≡ length before.assumptions
   pub extends : ExtendsStanding before now
   pub at : IsScopeAt a target (halves_of above) before
@@ -62,13 +63,13 @@ pub record WalksAt (a : StateAlgebra) (target : Target) (above : List Half) (sta
   pub at : IsScopeAt a target (halves_of above) standing
   pub due : ArePending a target standing (reverse pending) (turns above)
 
--- From so many assumptions one can go back to the mark of this second half, which does not stand above the root; and the half is on a
--- source, which is told.
+-- From so many assumptions one can go back to the mark of this second half, which does not stand above the root; and the half is of a
+-- line of the circuit, which is told.
 pub record LeadsBack (root : Standing) (count : ℕ) (pending : Pending) : Type 0 where
   pub before : pending.mark.at ≤ count
   pub not_above_root : length root.assumptions ≤ pending.mark.at
-  pub source : pending.half.source < source_count root.net
-  pub told : IsTold root pending.half.source
+  pub in_circuit : pending.half.split.line.0 < line_count root.net
+  pub told : IsTold root pending.half.split.line.0
 
 -- one can go back to the marks of these second halves, one after another
 abbrev pub LeadBack : Standing → ℕ → List Pending → Type 0
@@ -108,21 +109,16 @@ GoesDown a half old before new after = (target : Target) (above : List Half) →
 abbrev pub PassesOn : StateAlgebra → Node → Standing → List Pending → Standing → List Pending → Type 0
 PassesOn a Closed old before new after = GoesRound a old before new after
 PassesOn a Waiting old before new after = GoesRound a old before new after
-PassesOn a (Value source) old before new after =
-    GoesDown a (record { source = source; steadiness = false; second = false }) old before new after
-PassesOn a (Steadiness source) old before new after =
-    GoesDown a (record { source = source; steadiness = true; second = false }) old before new after
+PassesOn a (Split split) old before new after = GoesDown a (half_of split false) old before new after
 
--- a split of the node is on a source, which is told
+-- a split of the node is at a line of the circuit, which is told
 abbrev pub IsOnTold : Standing → Node → Type 0
 IsOnTold standing Closed = ⊤
 IsOnTold standing Waiting = ⊤
-IsOnTold standing (Value source) = (source < source_count standing.net) × IsTold standing source
-IsOnTold standing (Steadiness source) = (source < source_count standing.net) × IsTold standing source
+IsOnTold standing (Split split) = (split.line.0 < line_count standing.net) × IsTold standing split.line.0
 
--- where the node is a split on a source, that source is told
+-- where the node is a split at a line of the circuit, that line is told
 abbrev pub IsToldAt : Standing → Node → Type 0
 IsToldAt standing Closed = ⊤
 IsToldAt standing Waiting = ⊤
-IsToldAt standing (Value source) = source < source_count standing.net → IsTold standing source
-IsToldAt standing (Steadiness source) = source < source_count standing.net → IsTold standing source
+IsToldAt standing (Split split) = split.line.0 < line_count standing.net → IsTold standing split.line.0

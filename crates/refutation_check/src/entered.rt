@@ -18,7 +18,7 @@ use std::alloc::Global;
 use trees::Tree;
 
 /// Whether a tree refutes what a scope has begun for at the pins that it has entered since, which are those of a prefix. False is no proof
-/// that the tree doesn't: one that splits a linked source which the scope does not tell is not judged. The scope is afterwards as before,
+/// that the tree doesn't: one that splits a line which the scope does not tell is not judged. The scope is afterwards as before,
 /// but that conflicts were counted; so it is after an error, which is want of memory: some bytes for each half above a node.
 pub fn refutes_entered<A: Algebra, S: Setting>(
     alloc: Global,

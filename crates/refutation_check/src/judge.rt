@@ -39,7 +39,8 @@ use trees::{Node, Tree};
 
 /// A judge of trees of cases for prefixes of paths in one netlist, with the kind of states that its rules choose. One serves for any number
 /// of trees, one after another: each costs what the walk over it changes in the cone of its prefix's end, and not the circuit. Only a tree
-/// that splits a linked source outside that cone may cost the circuit, and a spent tree may be walked twice.
+/// that splits a line outside the cone of the judge's ends, and no source without a link, is judged on an engine of its own, which may cost
+/// the circuit; and a spent tree may be walked twice.
 ///
 /// Contracts see for what it is made: the circuit, the rules under which the trees were grown, and the lines in whose support the
 /// prefixes end that it can judge.
@@ -92,9 +93,10 @@ impl<'n, A: Algebra> TreeJudge<'n, A> {
     }
 
     /// Whether a tree refutes the conditions of a kind of test for a prefix and a transition. No names the first node in preorder that is
-    /// at fault: an open leaf, a closed leaf whose node does not close, or a split on a number that is no source. It fails only where
-    /// memory runs out. Of that it takes some bytes for each half above a node, and as much as an engine for a tree that splits a linked
-    /// source outside the support of the judge's ends. The judge serves on, whatever the answer.
+    /// at fault: an open leaf, a closed leaf whose node does not close, or a split that the rules do not have: under rules One it is at a
+    /// source, else at any line, and it is by first values under linked rules alone. It fails only where memory runs out. Of that it takes
+    /// some bytes for each half above a node, and as much as an engine for a tree that splits a line outside the cone of the judge's ends,
+    /// which is judged on an engine of its own; splits at sources without a link are not such. The judge serves on, whatever the answer.
     pub fn check_tree(
         &mut self,
         prefix: &Path,
@@ -126,7 +128,7 @@ impl<'n, A: Algebra> TreeJudge<'n, A> {
         self.refutes_on(&target, tree)
     }
 
-    // What the nodes of a tree tell, on the judge's engine, or where that does not tell the sources that the tree splits, on one that does.
+    // What the nodes of a tree tell, on the judge's engine, or where that does not tell the lines that the tree splits, on one that does.
     fn refutes_on(&mut self, target: &Target, tree: &Tree) -> Result<TreeCheck, OutOfMemory>
         requires prefix { IsPrefix self.old.net target.now.path.now }
         requires told { IsToldBy self.old.net (links_of self.old.rules) self.old.ends (end_of self.old.net target.now.path.now) }
@@ -149,10 +151,11 @@ impl<'n, A: Algebra> TreeJudge<'n, A> {
 
     /// Whether a tree shows that a budget was spent on a path and a transition under the conditions of a kind of test. No(0) where it has
     /// more or fewer splits than the budget, or no open leaf. Else No names the first node in preorder that is at fault: a closed leaf
-    /// whose node does not close; an open leaf or a split whose node closes, or whose trial does not; a split on a source outside the
-    /// support, or on one that has no state of some half in the hull. After Yes the budget is below four to the power of one less than the
-    /// number of sources in the support, or below two to that power where the other sources are held steady. It fails only where memory
-    /// runs out, of which it takes some bytes for each half above a node; the judge serves on, whatever the answer.
+    /// whose node does not close; an open leaf or a split whose node closes, or whose trial does not; a split at a line that is no source
+    /// of the support, one by first values, or one whose source has no state of some half in the hull. After Yes the budget is below four
+    /// to the power of one less than the number of sources in the support, or below two to that power where the other sources are held
+    /// steady. It fails only where memory runs out, of which it takes some bytes for each half above a node; the judge serves on, whatever
+    /// the answer.
     pub fn check_spent(
         &mut self,
         path: &Path,

@@ -19,6 +19,7 @@ mod root;
 mod single;
 mod spent;
 mod split_ends;
+mod splits;
 mod trial;
 mod trial_states;
 mod walk;

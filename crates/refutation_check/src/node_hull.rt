@@ -4,10 +4,10 @@
 ghost use Rattle.std.specs.Prelude.{◌≡◌, ◌<◌, [], List, None, All, IfOk, length};
 ghost use Rattle.pd_base.specs.Target as seen;
 ghost use Rattle.pd_base.specs.Target.{target_of};
-ghost use Rattle.netlist.specs.Circuit.{source_count, line_count};
+ghost use Rattle.netlist.specs.Circuit.{line_count};
 ghost use Rattle.netlist.specs.LinkedPairs.{FitRules};
 ghost use Rattle.netlist.specs.Paths.{IsPrefix};
-ghost use Rattle.state_laws.specs.declared.half.Half.{Half};
+ghost use Rattle.state_laws.specs.declared.split.Half.{Half};
 ghost use Rattle.implication.specs.Scopes.{standing};
 ghost use Rattle.implication.specs.Settings.{IsSameSetting};
 ghost use Rattle.refutation_check.specs.NodeHulls.{IsAtNode, IsFoundAt, LosesNoPair, DecidesSingletons};
@@ -26,7 +26,7 @@ use state_sets::{Algebra, FourStates, Labels, SixStates, StateSet};
 use std::alloc::Global;
 
 /// The hull at a node: the greatest labels that no narrowing changes, under the conditions of the kind at the gates of the prefix,
-/// where the prefix's source launches the transition, the other sources start as the rules leave them, each source of a half has only
+/// where the prefix's source launches the transition, the other sources start as the rules leave them, the line of each half has only
 /// states of the half, and the links of the rules stand. Under linked rules states are of the six, and else of the four. It fails only
 /// where memory runs out, of which it takes some bytes for each line and each gate.
 pub fn hull(
@@ -40,7 +40,7 @@ pub fn hull(
 ) -> Result<Hull, OutOfMemory>
     requires fit { FitRules net.now rules.now }
     requires prefix { IsPrefix net.now prefix.now }
-    requires sources { All (λ half. half.source < source_count net.now) halves.now }
+    requires lines { All (λ half. half.split.line.0 < line_count net.now) halves.now }
     ensures hull { IfOk result (IsAtNode net.now rules.now (target_of prefix.now dir kind) halves.now) }
 
     // no pair of the rules is lost, and singletons decide
@@ -67,7 +67,7 @@ fn hull_by_rules(
 ) -> Result<Hull, OutOfMemory>
     requires fit { FitRules net.now rules.now }
     requires prefix { IsPrefix net.now target.now.path.now }
-    requires sources { All (λ half. half.source < source_count net.now) halves.now }
+    requires lines { All (λ half. half.split.line.0 < line_count net.now) halves.now }
     ensures { IfOk result (IsAtNode net.now rules.now (seen_target target.now) halves.now) }
 {
     match rules {
@@ -92,7 +92,7 @@ fn hull_at<A: Algebra>(
 ) -> Result<Result<Labels<A>, LineId>, OutOfMemory>
     requires fit { FitRules net.now rules.now }
     requires prefix { IsPrefix net.now target.now.path.now }
-    requires sources { All (λ half. half.source < source_count net.now) halves.now }
+    requires lines { All (λ half. half.split.line.0 < line_count net.now) halves.now }
     ensures { IfOk result (IsFoundAt A.algebra net.now rules.now (seen_target target.now) halves.now) }
 {
     let mut engine = Engine::<A, RuledNetlist>::new(alloc, RuledNetlist { net, rules })?;
@@ -112,7 +112,7 @@ fn hull_on<A: Algebra, S: Setting>(
     requires idle { engine.old.beginning ≡ None }
     requires all_told { engine.old.ends ≡ None }
     requires prefix { IsPrefix engine.old.net target.now.path.now }
-    requires sources { All (λ half. half.source < source_count engine.old.net) halves.now }
+    requires lines { All (λ half. half.split.line.0 < line_count engine.old.net) halves.now }
     ensures { IfOk result (IsFoundAt A.algebra engine.old.net engine.old.rules (seen_target target.now) halves.now) }
 {
     let mut scope = begin_root(engine, target);
@@ -123,7 +123,7 @@ fn hull_on<A: Algebra, S: Setting>(
 // Assumes halves one after another, down from the root of a tree.
 fn assume_halves<A: Algebra, S: Setting>(scope: &mut Scope<A, S>, halves: &[Half])
     requires all_told { (standing scope.old).ends ≡ None }
-    requires sources { All (λ half. half.source < source_count (standing scope.old).net) halves.now }
+    requires lines { All (λ half. half.split.line.0 < line_count (standing scope.old).net) halves.now }
     ensures setting { IsSameSetting (standing scope.old) (standing scope.new) }
     ensures below { (target : seen.Target) → IsScopeAt A.algebra target [] (standing scope.old) → IsScopeAt A.algebra target halves.now (standing scope.new) }
 {

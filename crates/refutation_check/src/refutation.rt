@@ -2,7 +2,7 @@
 ghost use Rattle.std.specs.Prelude.{◌≡◌, ◌↔◌, [], List, None, All, IfOk, IsTrue};
 ghost use Rattle.pd_base.specs.Target as seen;
 ghost use Rattle.netlist.specs.Paths.{IsPrefix, end_of};
-ghost use Rattle.state_laws.specs.declared.half.Half.{Half};
+ghost use Rattle.state_laws.specs.declared.split.Half.{Half};
 ghost use Rattle.implication.specs.Clients.{ExtendsStanding};
 ghost use Rattle.implication.specs.Scopes.{IsSameScope, standing};
 ghost use Rattle.implication.specs.Standing.{IsTold};
@@ -15,6 +15,7 @@ ghost use Rattle.refutation_check.specs.Answers.{TellsOfNodes, IsIdleOn};
 
 use crate::TreeCheck;
 use crate::root::begin_root;
+use crate::splits::is_split_of;
 use crate::walk::{Pending, pass};
 use implication::{Engine, Scope, Setting};
 use pair_judging::Target;
@@ -23,7 +24,7 @@ use state_sets::Algebra;
 use trees::{Node, Tree};
 
 // Whether each node of a tree is as a refutation asks for a prefix, a transition and a kind of test, on an engine on which no scope is open
-// and which tells the sources that the tree splits.
+// and which tells the lines that the tree splits.
 pub(crate) fn refutes<A: Algebra, S: Setting>(
     engine: &mut Engine<A, S>,
     pending: &mut Vec<Pending>,
@@ -74,6 +75,6 @@ fn refutes_at<A: Algebra, S: Setting>(scope: &Scope<A, S>, node: Node) -> bool
     match node {
         Node::Closed => scope.conflict().is_some(),
         Node::Waiting => false,
-        Node::Value(source) | Node::Steadiness(source) => source < scope.net().sources(),
+        Node::Split(split) => is_split_of(scope.net(), scope.rules(), split),
     }
 }

@@ -25,10 +25,10 @@ use state_sets::{Algebra, FourStates, SixStates};
 use std::alloc::Global;
 use trees::Tree;
 
-/// Whether a tree refutes the conditions of a kind of test for a prefix and a transition, under these rules. No names the first node
-/// in preorder that is at fault: an open leaf, a closed leaf whose node does not close, or a split on a number that is no source. It
-/// fails only where memory runs out, of which it takes some bytes for each line and each gate, and for each half above a node. Many trees
-/// on one netlist share a `TreeJudge`.
+/// Whether a tree refutes the conditions of a kind of test for a prefix and a transition, under these rules. No names the first node in
+/// preorder that is at fault: an open leaf, a closed leaf whose node does not close, or a split that the rules do not have: under rules One
+/// it is at a source, else at any line, and it is by first values under linked rules alone. It fails only where memory runs out, of which
+/// it takes some bytes for each line and each gate, and for each half above a node. Many trees on one netlist share a `TreeJudge`.
 pub fn check_tree(
     alloc: Global,
     net: &Netlist,
@@ -84,13 +84,13 @@ fn refutes_by_rules(
     }
 }
 
-/// Whether a tree shows that a budget was spent on a path and a transition under the conditions of a kind of test, under these rules.
-/// No(0) where it has more or fewer splits than the budget, or no open leaf. Else No names the first node in preorder that is at
-/// fault: a closed leaf whose node does not close; an open leaf or a split whose node closes, or whose trial does not; a split on a
-/// source outside the support, or on one that has no state of some half in the hull. After Yes the budget is below four to the power
-/// of one less than the number of sources in the support, or below two to that power where the other sources are held steady. It fails only
-/// where memory runs out, of which it takes some bytes for each line and each gate, and for each half above a node. Many trees on one
-/// netlist share a `TreeJudge`.
+/// Whether a tree shows that a budget was spent on a path and a transition under the conditions of a kind of test, under these rules. No(0)
+/// where it has more or fewer splits than the budget, or no open leaf. Else No names the first node in preorder that is at fault: a closed
+/// leaf whose node does not close; an open leaf or a split whose node closes, or whose trial does not; a split at a line that is no source
+/// of the support, one by first values, or one whose source has no state of some half in the hull. After Yes the budget is below four to
+/// the power of one less than the number of sources in the support, or below two to that power where the other sources are held steady. It
+/// fails only where memory runs out, of which it takes some bytes for each line and each gate, and for each half above a node. Many trees
+/// on one netlist share a `TreeJudge`.
 pub fn check_spent(
     alloc: Global,
     net: &Netlist,

@@ -2,7 +2,7 @@
 // in judge.rt.
 ghost use Rattle.std.specs.Prelude.{◌≡◌, [], List, None, IfOk, IsTrue};
 ghost use Rattle.netlist.specs.Paths.{IsPrefix, end_of};
-ghost use Rattle.state_laws.specs.declared.half.Half.{Half};
+ghost use Rattle.state_laws.specs.declared.split.Half.{Half};
 ghost use Rattle.implication.specs.Scopes.{IsSameScope, standing};
 ghost use Rattle.implication.specs.Standing.{IsSupportTold, IsTold};
 ghost use Rattle.implication.specs.declared.assumption.Origin.TheVariants.{Begun};
@@ -14,7 +14,7 @@ ghost use Rattle.refutation_check.specs.Trials.{IsTrialRoomFor, IsTrialRoomAt, I
 ghost use Rattle.refutation_check.specs.Walks.{IsScopeAt, IsOnTold};
 
 use crate::TreeCheck;
-use crate::due::{Split, is_due};
+use crate::due::is_due;
 use crate::root::begin_root;
 use crate::trial::{TrialRoom, is_open};
 use crate::walk::{Pending, pass};
@@ -95,19 +95,6 @@ fn is_right_at<A: Algebra, S: Setting>(
     match node {
         Node::Closed => scope.conflict().is_some(),
         Node::Waiting => scope.conflict().is_none() && is_open(scope, target, room),
-        Node::Value(source) => {
-            let split = Split {
-                source,
-                steadiness: false,
-            };
-            is_due(scope, target, room, split)
-        }
-        Node::Steadiness(source) => {
-            let split = Split {
-                source,
-                steadiness: true,
-            };
-            is_due(scope, target, room, split)
-        }
+        Node::Split(split) => is_due(scope, target, room, split),
     }
 }

@@ -1,8 +1,9 @@
-// Trees that split linked sources outside the support of a judge's ends. A half of such a source bears on the lines inside: it cuts the
-// first value of the line to which the source is linked, which the judge's engine leaves out. So the tree is judged on an engine of its
-// own, within the end of its prefix and the sources that it splits.
+// Trees that split lines which a judge's engine does not tell: those outside the support of its ends, but for sources without a link. A half
+// of such a line may bear on the lines inside: what it leaves the line cuts down the lines behind it, and the first value of a line to
+// which a source is linked. The judge's engine leaves that out. So the tree is judged on an engine of its own, within the end of its prefix
+// and the lines that it splits.
 ghost use Rattle.std.specs.Prelude.{◌<◌, All, IfOk, OnOk, IsTrue, Contains};
-ghost use Rattle.netlist.specs.Circuit.{source_count, line_count};
+ghost use Rattle.netlist.specs.Circuit.{line_count};
 ghost use Rattle.netlist.specs.LinkedPairs.{FitRules};
 ghost use Rattle.netlist.specs.Paths.{IsPrefix, end_of};
 ghost use Rattle.trees.specs.Faults.{RefutesAtNode};
@@ -22,13 +23,10 @@ use state_sets::Algebra;
 use std::alloc::Global;
 use trees::{Node, Tree};
 
-// Whether an engine tells each source that these nodes split. Without links it tells all sources.
+// Whether an engine tells each line that these nodes split. Without links it tells all sources, and so those of each tree of sources.
 pub(crate) fn tells_splits<A: Algebra, S: Setting>(engine: &Engine<A, S>, nodes: &[Node]) -> bool
     ensures { IsTrue result → All (IsToldAt engine.now) nodes.now }
 {
-    if engine.rules().links().is_empty() {
-        return true;
-    }
     for node in nodes {
         if !tells_split(engine, *node) {
             return false;
@@ -37,15 +35,13 @@ pub(crate) fn tells_splits<A: Algebra, S: Setting>(engine: &Engine<A, S>, nodes:
     true
 }
 
-// Whether it tells the source that a node splits, if the node splits one.
+// Whether it tells the line that a node splits, if the node splits one of the netlist.
 fn tells_split<A: Algebra, S: Setting>(engine: &Engine<A, S>, node: Node) -> bool
     ensures { IsTrue result → IsToldAt engine.now node }
 {
     match node {
         Node::Closed | Node::Waiting => true,
-        Node::Value(source) | Node::Steadiness(source) => {
-            source >= engine.net().sources() || engine.tells(LineId(source))
-        }
+        Node::Split(split) => split.line.0 >= engine.net().lines() || engine.tells(split.line),
     }
 }
 
@@ -74,7 +70,7 @@ pub(crate) fn refutes_apart<A: Algebra>(
     told
 }
 
-// The end of a prefix, and the sources that these nodes split.
+// The end of a prefix, and the lines that these nodes split.
 fn ends_of_tree(
     alloc: Global,
     net: &Netlist,
@@ -84,35 +80,35 @@ fn ends_of_tree(
     requires prefix { IsPrefix net.now prefix.now }
     ensures lines { IfOk result (λ ends. All (λ end. end.0 < line_count net.now) ends.items) }
     ensures end { IfOk result (λ ends. Contains ends.items (record { 0 = end_of net.now prefix.now })) }
-    ensures splits { IfOk result (λ ends. All (IsEndAt (source_count net.now) ends.items) nodes.now) }
+    ensures splits { IfOk result (λ ends. All (IsEndAt (line_count net.now) ends.items) nodes.now) }
 {
     let mut ends = Vec::new(alloc);
     ends.push(end_of(net, prefix))?;
-    push_splits(&mut ends, net.sources(), nodes)?;
+    push_splits(&mut ends, net.lines(), nodes)?;
     Ok(ends)
 }
 
-// Adds the sources that these nodes split to the ends.
-fn push_splits(ends: &mut Vec<LineId>, sources: u32, nodes: &[Node]) -> Result<(), OutOfMemory>
-    ensures adds { AddsEnds sources ends.old.items ends.new.items }
-    ensures splits { OnOk result (All (IsEndAt sources ends.new.items) nodes.now) }
+// Adds the lines that these nodes split to the ends, of so many lines.
+fn push_splits(ends: &mut Vec<LineId>, lines: u32, nodes: &[Node]) -> Result<(), OutOfMemory>
+    ensures adds { AddsEnds lines ends.old.items ends.new.items }
+    ensures splits { OnOk result (All (IsEndAt lines ends.new.items) nodes.now) }
 {
     for node in nodes {
-        push_split(ends, sources, *node)?;
+        push_split(ends, lines, *node)?;
     }
     Ok(())
 }
 
-// Adds the source that a node splits to the ends, if the node splits one.
-fn push_split(ends: &mut Vec<LineId>, sources: u32, node: Node) -> Result<(), OutOfMemory>
-    ensures adds { AddsEnds sources ends.old.items ends.new.items }
-    ensures split { OnOk result (IsEndAt sources ends.new.items node) }
+// Adds the line that a node splits to the ends, if the node splits one of so many.
+fn push_split(ends: &mut Vec<LineId>, lines: u32, node: Node) -> Result<(), OutOfMemory>
+    ensures adds { AddsEnds lines ends.old.items ends.new.items }
+    ensures split { OnOk result (IsEndAt lines ends.new.items node) }
 {
     match node {
         Node::Closed | Node::Waiting => {}
-        Node::Value(source) | Node::Steadiness(source) => {
-            if source < sources {
-                ends.push(LineId(source))?;
+        Node::Split(split) => {
+            if split.line.0 < lines {
+                ends.push(split.line)?;
             }
         }
     }

@@ -8,7 +8,7 @@ ghost use Rattle.netlist.specs.Circuit.{line_count};
 ghost use Rattle.netlist.specs.LinkedPairs.{FitRules};
 ghost use Rattle.netlist.specs.Paths.{IsPrefix, end_of};
 ghost use Rattle.state_sets.specs.declared.state.StateSet.{StateSet};
-ghost use Rattle.state_laws.specs.declared.half.Half.{Half};
+ghost use Rattle.state_laws.specs.declared.split.Half.{Half};
 ghost use Rattle.implication.specs.Scopes.{standing};
 ghost use Rattle.implication.specs.Standing.{IsSupportTold};
 ghost use Rattle.trees.specs.Algebras.{algebra_of};

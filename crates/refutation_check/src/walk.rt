@@ -4,8 +4,9 @@
 // refutation.rt and spent.rt.
 ghost use Rattle.std.specs.Prelude.{◌≡◌, ◌<◌, ◌∷◌, ◌++◌, false, [], List, OnOk};
 ghost use Rattle.pd_base.specs.Target.{Target};
-ghost use Rattle.netlist.specs.Circuit.{source_count};
-ghost use Rattle.state_laws.specs.declared.half.Half.{Half};
+ghost use Rattle.netlist.specs.Circuit.{line_count};
+ghost use Rattle.state_laws.specs.declared.split.Half.{Half};
+ghost use Rattle.state_laws.specs.Halves.{half_of};
 ghost use Rattle.implication.specs.Clients.{ExtendsStanding};
 ghost use Rattle.implication.specs.Standing.{IsTold};
 ghost use Rattle.implication.specs.Scopes.{IsSameScope, standing};
@@ -15,8 +16,8 @@ ghost use Rattle.refutation_check.specs.Walks.{IsScopeAt, IsWalk, KeepsRoot, IsO
 
 use hulls::half_states;
 use implication::{Scope, ScopeMark, Setting};
-use pd_base::{LineId, OutOfMemory};
-use state_laws::Half;
+use pd_base::OutOfMemory;
+use state_laws::{Half, Split};
 use state_sets::Algebra;
 use trees::Node;
 
@@ -46,8 +47,7 @@ pub(crate) fn pass<A: Algebra, S: Setting>(
             turn(scope, pending);
             Ok(())
         }
-        Node::Value(source) => split(scope, pending, source, false),
-        Node::Steadiness(source) => split(scope, pending, source, true),
+        Node::Split(split) => go_down(scope, pending, split),
     }
 }
 
@@ -68,47 +68,44 @@ fn turn<A: Algebra, S: Setting>(scope: &mut Scope<A, S>, pending: &mut Vec<Pendi
 }
 
 // Goes down into the first half of a split, and puts the second one off.
-fn split<A: Algebra, S: Setting>(
+fn go_down<A: Algebra, S: Setting>(
     scope: &mut Scope<A, S>,
     pending: &mut Vec<Pending>,
-    source: u32,
-    steadiness: bool,
+    split: Split,
 ) -> Result<(), OutOfMemory>
-    requires source { source < source_count (standing scope.old).net }
-    requires told { IsTold (standing scope.old) source }
+    requires line { split.line.0 < line_count (standing scope.old).net }
+    requires told { IsTold (standing scope.old) split.line.0 }
     ensures scope { IsSameScope scope.old scope.new }
     ensures setting { IsSameSetting (standing scope.old) (standing scope.new) }
     ensures root { KeepsRoot (standing scope.old) pending.old.items (standing scope.new) pending.new.items }
-    ensures goes { OnOk result (GoesDown A.algebra (record { source = source; steadiness = steadiness; second = false })
+    ensures goes { OnOk result (GoesDown A.algebra (half_of split false)
         (standing scope.old) pending.old.items (standing scope.new) pending.new.items) }
 {
     let mark = scope.mark();
     let half = Half {
-        source,
-        steadiness,
+        split,
         second: true,
     };
     pending.push(Pending { half, mark })?;
     assume_half(
         scope,
         Half {
-            source,
-            steadiness,
+            split,
             second: false,
         },
     );
     Ok(())
 }
 
-// Assumes of the source of a half that it is in a state of that half. Where a conflict comes, the scope keeps it.
+// Assumes of the line of a half that it is in a state of that half. Where a conflict comes, the scope keeps it.
 pub(crate) fn assume_half<A: Algebra, S: Setting>(scope: &mut Scope<A, S>, half: Half)
-    requires source { half.source < source_count (standing scope.old).net }
-    requires told { IsTold (standing scope.old) half.source }
+    requires line { half.split.line.0 < line_count (standing scope.old).net }
+    requires told { IsTold (standing scope.old) half.split.line.0 }
     ensures scope { IsSameScope scope.old scope.new }
     ensures extends { ExtendsStanding (standing scope.old) (standing scope.new) }
     ensures below { (target : Target) (halves : List Half) → IsScopeAt A.algebra target halves (standing scope.old)
         → IsScopeAt A.algebra target (halves ++ half ∷ []) (standing scope.new) }
 {
-    let states = half_states::<A>(half.steadiness, half.second);
-    let _ = scope.assume(LineId(half.source), states);
+    let states = half_states::<A>(half.split.kind, half.second);
+    let _ = scope.assume(half.split.line, states);
 }

@@ -1,11 +1,11 @@
 // What is said of the hull below halves of splits.
 ghost use Rattle.std.specs.Prelude.{◌<◌, All, IfOk};
-ghost use Rattle.netlist.specs.Circuit.{source_count};
+ghost use Rattle.netlist.specs.Circuit.{line_count};
 ghost use Rattle.netlist.specs.LinkedPairs.{FitRules};
 ghost use Rattle.netlist.specs.Paths.{IsPath};
 
 use crate::faults::{Fault, RuledFault, fault_of};
-use crate::nodes::node_of;
+use crate::nodes::split_of;
 use crate::paths::path;
 use crate::rules::rules_of;
 use crate::text::Text;
@@ -16,7 +16,6 @@ use refutation_check::{Hull, hull};
 use state_laws::Half;
 use state_sets::{State, StateSet};
 use std::alloc::Global;
-use trees::Node;
 
 /// Adds the hull below these halves: the rules (rules.rt), transition, kind, and for each half a split, as in a tree, and
 /// behind a dot 1 or 2. A line for each line of the circuit: its name, and the numbers of its states; before them, where these are of the
@@ -45,7 +44,7 @@ fn add_hull_below(
     halves: &[Half],
     answer: &mut Text,
 ) -> Result<(), Trouble>
-    requires halves { All (λ half. half.source < source_count net.now) halves.now }
+    requires halves { All (λ half. half.split.line.0 < line_count net.now) halves.now }
     requires fit { FitRules net.now fault.rules.now }
 {
     let prefix = path(alloc, net, prefix)?;
@@ -69,7 +68,7 @@ fn hull_of(
     halves: &[Half],
 ) -> Result<Hull, OutOfMemory>
     requires path { IsPath net.now prefix.now }
-    requires halves { All (λ half. half.source < source_count net.now) halves.now }
+    requires halves { All (λ half. half.split.line.0 < line_count net.now) halves.now }
     requires fit { FitRules net.now fault.rules.now }
 {
     let Fault { direction, kind } = fault.fault;
@@ -103,7 +102,7 @@ fn add_states(set: StateSet, answer: &mut Text) {
 
 /// The halves of a row: for each a split, as in a tree, and behind a dot 1 or 2.
 pub fn halves_of(alloc: Global, net: &Netlist, row: &str) -> Result<Vec<Half>, Trouble>
-    ensures { IfOk result (λ halves. All (λ half. half.source < source_count net.now) halves.items) }
+    ensures { IfOk result (λ halves. All (λ half. half.split.line.0 < line_count net.now) halves.items) }
 {
     let mut halves = Vec::new(alloc);
     for word in row.split(' ') {
@@ -116,20 +115,15 @@ pub fn halves_of(alloc: Global, net: &Netlist, row: &str) -> Result<Vec<Half>, T
 
 // One half: a split, a dot, and 1 or 2.
 fn half_of(net: &Netlist, word: &str) -> Result<Half, Trouble>
-    ensures { IfOk result (λ half. half.source < source_count net.now) }
+    ensures { IfOk result (λ half. half.split.line.0 < line_count net.now) }
 {
     let (split, place) = word.split_once('.').ok_or(Trouble::NoRow)?;
-    let (source, steadiness) = match node_of(split)? {
-        Node::Value(source) => (source, false),
-        Node::Steadiness(source) => (source, true),
-        _ => return Err(Trouble::NoRow),
-    };
-    if source >= net.sources() {
+    let split = split_of(split)?;
+    if split.line.0 >= net.lines() {
         return Err(Trouble::NoRow);
     }
     Ok(Half {
-        source,
-        steadiness,
+        split,
         second: place == "2",
     })
 }

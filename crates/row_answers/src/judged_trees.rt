@@ -11,8 +11,9 @@ use crate::rules::rules_of;
 use crate::text::Text;
 use crate::trouble::Trouble;
 use netlist::Netlist;
-use pd_base::{OutOfMemory, Path};
+use pd_base::{LineId, OutOfMemory, Path};
 use refutation_check::{TreeCheck, check_spent, check_tree};
+use state_laws::{Split, SplitKind};
 use std::alloc::Global;
 use trees::{Node, Tree};
 
@@ -58,7 +59,11 @@ fn deep_tree(alloc: Global, splits: u32) -> Result<Tree, Trouble> {
 
 // Its nodes.
 fn push_all(nodes: &mut Vec<Node>, splits: u32) -> Result<(), Trouble> {
-    push_each(nodes, Node::Value(0), splits)?;
+    let split = Split {
+        line: LineId(0),
+        kind: SplitKind::LastValue,
+    };
+    push_each(nodes, Node::Split(split), splits)?;
     push_each(nodes, Node::Closed, splits)?;
     nodes.push(Node::Closed)?;
     Ok(())

@@ -1,6 +1,8 @@
 // Nodes of trees by their words.
 use crate::texts::number_of;
 use crate::trouble::Trouble;
+use pd_base::LineId;
+use state_laws::{Split, SplitKind};
 use std::alloc::Global;
 use trees::{Node, Tree};
 
@@ -21,16 +23,30 @@ pub fn whole(nodes: Vec<Node>) -> Result<Tree, Trouble> {
     Tree::from_nodes(nodes).ok_or(Trouble::NoRow)
 }
 
-/// One node: X, O, or V or H with the number of a source.
+/// One node: X, O, or a split.
 pub fn node_of(word: &str) -> Result<Node, Trouble> {
     match word {
         "X" => return Ok(Node::Closed),
         "O" => return Ok(Node::Waiting),
         _ => {}
     }
-    if let Some(source) = word.strip_prefix("V") {
-        return Ok(Node::Value(number_of(source)?));
+    Ok(Node::Split(split_of(word)?))
+}
+
+/// A split: V, H or F, and the number of a line.
+pub fn split_of(word: &str) -> Result<Split, Trouble> {
+    if let Some(line) = word.strip_prefix("V") {
+        return split_at(line, SplitKind::LastValue);
     }
-    let source = word.strip_prefix("H").ok_or(Trouble::NoRow)?;
-    Ok(Node::Steadiness(number_of(source)?))
+    if let Some(line) = word.strip_prefix("H") {
+        return split_at(line, SplitKind::Steadiness);
+    }
+    let line = word.strip_prefix("F").ok_or(Trouble::NoRow)?;
+    split_at(line, SplitKind::FirstValue)
+}
+
+// A split of this kind at the line of this number.
+fn split_at(line: &str, kind: SplitKind) -> Result<Split, Trouble> {
+    let line = LineId(number_of(line)?);
+    Ok(Split { line, kind })
 }

@@ -1,7 +1,8 @@
 use Rattle.std.proofs.Common.{◌<◌, false, List, take, get_or, sym, subst, ◌∙◌}
 use Rattle.std.proofs.lemmas.List.{take_more, take_all}
-use Rattle.netlist.specs.Circuit.{Circuit, source_count}
-use Rattle.state_laws.specs.declared.half.Half.{Half}
+use Rattle.netlist.specs.Circuit.{Circuit, line_count}
+use Rattle.state_laws.specs.declared.split.SplitKind.TheVariants.{LastValue}
+use Rattle.state_laws.specs.declared.split.Half.{Half}
 use Rattle.implication.specs.Scopes.{standing}
 use Rattle.refutation_check.specs.Walks.{IsScopeAt}
 use Rattle.refutation_check.proofs.SameSettings.{all_are_told}
@@ -11,7 +12,7 @@ use Rattle.refutation_check.proofs.node_hull.assume_halves.Goals as goal
 -- One half more is assumed, and at the end all are.
 
 abbrev no_half : Half
-no_half = record { source = 0; steadiness = false; second = false }
+no_half = record { split = record { line = record { 0 = 0 }; kind = LastValue }; second = false }
 
 pub loop-half-init : goal.loop-half-init
 loop-half-init g c = record {
@@ -21,11 +22,11 @@ loop-half-init g c = record {
 
 pub assume_half-requires : goal.assume_half-requires
 assume_half-requires g c =
-    let P : Circuit → Type 0 = λ n. (get_or c.args.halves.now c.loop-half.half-index no_half).source < source_count n in
+    let P : Circuit → Type 0 = λ n. (get_or c.args.halves.now c.loop-half.half-index no_half).split.line.0 < line_count n in
     record {
-      source = subst P (sym c.loop-half.invariant.setting.net) (c.requires.sources c.loop-half.half-index no_half c.loop-half-test.true);
+      line = subst P (sym c.loop-half.invariant.setting.net) (c.requires.lines c.loop-half.half-index no_half c.loop-half-test.true);
       told = all_are_told (standing c.loop-half.scope) (c.loop-half.invariant.setting.ends ∙ c.requires.all_told)
-          (get_or c.args.halves.now c.loop-half.half-index no_half).source;
+          (get_or c.args.halves.now c.loop-half.half-index no_half).split.line.0;
     }
 
 pub loop-half-preserved : goal.loop-half-preserved

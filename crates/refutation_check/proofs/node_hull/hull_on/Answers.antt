@@ -1,9 +1,9 @@
 use Rattle.std.proofs.Common.{◌<◌, IfOk, sym, ◌∙◌, subst, subst₂}
 use Rattle.std.specs.List.{All}
 use Rattle.pd_base.specs.declared.rules.Rules.{Rules}
-use Rattle.netlist.specs.Circuit.{Circuit, source_count}
+use Rattle.netlist.specs.Circuit.{Circuit, line_count}
 use Rattle.netlist.specs.Paths.{end_of}
-use Rattle.state_laws.specs.declared.half.Half.{Half}
+use Rattle.state_laws.specs.declared.split.Half.{Half}
 use Rattle.refutation_check.specs.NodeHulls.{IsFoundAt}
 use Rattle.pair_judging.specs.Targets.{seen_target}
 use Rattle.refutation_check.proofs.SameSettings.{all_are_told}
@@ -17,10 +17,10 @@ begin_root-scope-requires-clause-told g c =
 
 pub assume_halves-requires : goal.assume_halves-requires
 assume_halves-requires g c =
-    let P : Circuit → Type 0 = λ n. All (λ (half : Half). half.source < source_count n) c.args.halves.now in
+    let P : Circuit → Type 0 = λ n. All (λ (half : Half). half.split.line.0 < line_count n) c.args.halves.now in
     record {
       all_told = c.begin_root-scope.ensures.setting.ends ∙ c.requires.all_told;
-      sources = subst P (sym c.begin_root-scope.ensures.setting.net) c.requires.sources;
+      lines = subst P (sym c.begin_root-scope.ensures.setting.net) c.requires.lines;
     }
 
 pub hull_of-requires : goal.hull_of-requires

@@ -17,9 +17,9 @@ use Rattle.refutation_check.proofs.WalkRoots.{walk_begins}
 use Rattle.implication.proofs.Settings.{same_itself, same_twice}
 use Rattle.refutation_check.proofs.refutation.walk_refutation.Goals as goal
 
--- halves of any sources
+-- halves of any lines
 abbrev any : ℕ → Type 0
-any source = Unit {0}
+any line = Unit {0}
 
 pub loop-place-init : goal.loop-place-init
 loop-place-init g c =

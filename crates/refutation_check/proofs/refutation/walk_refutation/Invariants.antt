@@ -14,6 +14,6 @@ invariant-loop-place g l = record {
   setting : IsSameSetting (standing l.fn.scope) (standing l.scope);
   walk : IsWalkFrom (standing l.fn.scope) (standing l.scope) l.pending.items;
   checked : (target : Target) → IsScopeAt g.A.Algebra.algebra target [] (standing l.fn.scope)
-      → HasChecked g.A.Algebra.algebra (RefutesAtNode g.A.Algebra.algebra (standing l.fn.scope).net (standing l.fn.scope).rules target) (λ source. Unit {0}) target l.node-items l.place
+      → HasChecked g.A.Algebra.algebra (RefutesAtNode g.A.Algebra.algebra (standing l.fn.scope).net (standing l.fn.scope).rules target) (λ line. Unit {0}) target l.node-items l.place
       (standing l.scope) l.pending.items;
 }

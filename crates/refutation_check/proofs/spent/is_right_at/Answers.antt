@@ -2,7 +2,7 @@
 use Rattle.std.proofs.Common.{Bool, List, sym, subst}
 use Rattle.pd_base.specs.Target.{Target}
 use Rattle.state_sets.specs.StateAlgebra.{StateAlgebra}
-use Rattle.state_laws.specs.declared.half.Half.{Half}
+use Rattle.state_laws.specs.declared.split.Half.{Half}
 use Rattle.trees.specs.declared.tree.Node.{Node}
 use Rattle.netlist.specs.Paths.{end_of}
 use Rattle.implication.specs.Scopes.{standing}
@@ -32,12 +32,6 @@ is_due-requires-clause-prefix g c = c.requires.prefix
 pub is_due-requires-clause-room : goal.is_due-requires-clause-room
 is_due-requires-clause-room g c = c.requires.room
 
-pub is_due-requires-in-Steadiness-clause-prefix : goal.is_due-requires-in-Steadiness-clause-prefix
-is_due-requires-in-Steadiness-clause-prefix g c = c.requires.prefix
-
-pub is_due-requires-in-Steadiness-clause-room : goal.is_due-requires-in-Steadiness-clause-room
-is_due-requires-in-Steadiness-clause-room g c = c.requires.room
-
 pub returns-in-Closed-clause-room : goal.returns-in-Closed-clause-room
 returns-in-Closed-clause-room g c = c.requires.room
 
@@ -47,11 +41,8 @@ returns-then-is_none-clause-room g c = c.is_open.ensures.room
 pub returns-else-is_none-clause-room : goal.returns-else-is_none-clause-room
 returns-else-is_none-clause-room g c = c.requires.room
 
-pub returns-in-Value-clause-room : goal.returns-in-Value-clause-room
-returns-in-Value-clause-room g c = c.is_due.ensures.room
-
-pub returns-in-Steadiness-clause-room : goal.returns-in-Steadiness-clause-room
-returns-in-Steadiness-clause-room g c = c.is_due-in-Steadiness.ensures.room
+pub returns-in-Split-clause-room : goal.returns-in-Split-clause-room
+returns-in-Split-clause-room g c = c.is_due.ensures.room
 
 pub returns-in-Closed-clause-right : goal.returns-in-Closed-clause-right
 returns-in-Closed-clause-right g c =
@@ -66,11 +57,6 @@ pub returns-then-is_none-clause-right : goal.returns-then-is_none-clause-right
 returns-then-is_none-clause-right g c =
     subst (TellsOf g.A.Algebra.algebra (seen_target c.args.target.now) (standing c.args.scope.now) c.is_open.result) (sym c.in-Waiting.is) c.is_open.ensures.open
 
-pub returns-in-Value-clause-right : goal.returns-in-Value-clause-right
-returns-in-Value-clause-right g c =
-    subst (TellsOf g.A.Algebra.algebra (seen_target c.args.target.now) (standing c.args.scope.now) c.is_due.result) (sym c.in-Value.is) c.is_due.ensures.due
-
-pub returns-in-Steadiness-clause-right : goal.returns-in-Steadiness-clause-right
-returns-in-Steadiness-clause-right g c =
-    subst (TellsOf g.A.Algebra.algebra (seen_target c.args.target.now) (standing c.args.scope.now) c.is_due-in-Steadiness.result) (sym c.in-Steadiness.is)
-    c.is_due-in-Steadiness.ensures.due
+pub returns-in-Split-clause-right : goal.returns-in-Split-clause-right
+returns-in-Split-clause-right g c =
+    subst (TellsOf g.A.Algebra.algebra (seen_target c.args.target.now) (standing c.args.scope.now) c.is_due.result) (sym c.in-Split.is) c.is_due.ensures.due

@@ -1,6 +1,6 @@
 use Rattle.implication.specs.Scopes.{standing}
 use Rattle.refutation_check.proofs.Walking.{comes_next, goes_round}
-use Rattle.refutation_check.proofs.WalkRoots.{mark_within, source_within, told_within, root_round}
+use Rattle.refutation_check.proofs.WalkRoots.{mark_within, line_within, told_within, root_round}
 use Rattle.refutation_check.proofs.walk.turn.Goals as goal
 
 -- Back to the node above the half that was put off last, and down into that half.
@@ -12,7 +12,7 @@ back_to-requires-clause-now g c =
 
 pub assume_half-requires : goal.assume_half-requires
 assume_half-requires g c = record {
-  source = source_within c.requires.walk.root (standing c.args.scope.now) c.in-Some.next c.pop.new.self.items c.args.pending.now.items
+  line = line_within c.requires.walk.root (standing c.args.scope.now) c.in-Some.next c.pop.new.self.items c.args.pending.now.items
       c.in-Some.ensures.items c.requires.walk.walk (standing c.back_to.new.self) c.back_to.ensures.back;
   told = told_within c.requires.walk.root (standing c.args.scope.now) c.in-Some.next c.pop.new.self.items c.args.pending.now.items
       c.in-Some.ensures.items c.requires.walk.walk (standing c.back_to.new.self) c.back_to.ensures.back;
