@@ -7,10 +7,10 @@ use Rattle.pd_base.specs.Pair.{Vectors}
 use Rattle.pd_base.specs.Target.{Target}
 use Rattle.pd_base.specs.declared.limits.TheConstants.{MOST_BUDGET}
 use Rattle.pd_base.specs.declared.rules.Rules.{Rules}
-use Rattle.netlist.specs.Circuit.{Circuit}
+use Rattle.netlist.specs.Circuit.{Circuit, source_count}
 use Rattle.state_sets.specs.StateAlgebra.{StateAlgebra}
 use Rattle.trees.specs.declared.tree.Node.{Node}
-use Rattle.trees.specs.Trees.{IsTree, split_count}
+use Rattle.trees.specs.Trees.{IsTree, IsTreeOfSources, split_count}
 use Rattle.trees.specs.Refutations.{IsRefutation}
 use Rattle.trees.specs.Spent.{IsSpent}
 use Rattle.trees.specs.Growing.{Grows}
@@ -28,6 +28,7 @@ use Rattle.justify.specs.Growths.{DueTree, IsGrowing}
 use Rattle.justify.specs.Searches.{IsGrowthOf}
 use Rattle.pair_judging.specs.Targets.{seen_target}
 use Rattle.justify.specs.Tests.{IsFitTest}
+use Rattle.justify.proofs.SourceTrees.{grown_of_sources}
 use Rattle.implication.proofs.ScopeLabels.{there_too}
 
 -- one conflict more was counted
@@ -62,9 +63,9 @@ module _ (a : StateAlgebra) (c : Circuit) (rules : Rules) (target : Target) (bud
   pub end_found : (found : Found) → IsEnd nodes found → IsFound c rules target budget found
   end_found (Test pair) is = absurd is
   end_found (Refuted tree) is =
-      let P : List Node → Type 0 = λ ns. IsRefutation c rules target ns × (split_count ns ≤ budget) in
+      let P : List Node → Type 0 = λ ns. IsRefutation c rules target ns × (split_count ns ≤ budget) × IsTreeOfSources (source_count c) ns in
       let few : split_count nodes ≤ budget = let e = growing.counted in let f = growing.within in omega (arith, e, f) in
-      subst P (sym is.0) (grown_refutes c rules target nodes no_place is.1, few)
+      subst P (sym is.0) (grown_refutes c rules target nodes no_place is.1, few, grown_of_sources c rules target nodes no_place)
   end_found (Spent tree) is =
       let P : List Node → Type 0 = λ ns. IsSpent c rules target budget ns in
       subst P (sym is.0) (grown_spent c rules target nodes no_place budget (growing.counted ∙ growing.waits is.1) is.1)
@@ -118,7 +119,7 @@ module _ (splits budget : ℕ) where
   pub turn_found : (c : Circuit) (rules : Rules) (target : Target) → splits ≤ budget → (found : Found) → (is_spent found ≡ true → splits ≡ budget)
       → IsFound c rules target splits found → IsFound c rules target budget found
   turn_found c rules target few (Test pair) same is = is
-  turn_found c rules target few (Refuted tree) same is = (is.0, let within = is.1 in omega (arith, within, few))
+  turn_found c rules target few (Refuted tree) same is = (is.0, (let within = is.1 in omega (arith, within, few)), is.2)
   turn_found c rules target few (Spent tree) same is = let P : ℕ → Type 0 = λ n. IsSpent c rules target n tree in subst P (same refl) is
 
   pub turn_counts : (found : Found) → (is_spent found ≡ true → splits ≡ budget) → (old new : Standing)

@@ -12,4 +12,5 @@ mod Placing
 mod Visits
 mod GoingOn
 mod Starting
+mod SourceTrees
 mod Ended

@@ -14,17 +14,18 @@ use Rattle.state_sets.specs.declared.state.StateSet.{StateSet}
 use Rattle.state_sets.specs.States.{Has, both_sets}
 use Rattle.state_sets.specs.StateAlgebra.{StateAlgebra}
 use Rattle.state_sets.specs.Labellings.{label_at}
-use Rattle.state_sets.specs.Starts.{IsInHalf}
-use Rattle.state_laws.specs.declared.half.Half.{Half}
+use Rattle.state_laws.specs.declared.split.Split.{Split as CaseSplit}
+use Rattle.state_laws.specs.declared.split.Half.{Half}
+use Rattle.state_laws.specs.Halves.{IsInHalf, half_of}
 use Rattle.state_laws.specs.Nodes.{ClosesAtNode}
 use Rattle.state_laws.proofs.Restart.{may_be_below, may_be_above}
 use Rattle.trees.specs.declared.tree.Node.{Node}
-use Rattle.trees.specs.declared.tree.Node.TheVariants.{Closed, Waiting}
+use Rattle.trees.specs.declared.tree.Node.TheVariants.{Closed, Waiting, Split}
 use Rattle.trees.specs.Algebras.{algebra_of}
-use Rattle.trees.specs.Trees.{split_count}
+use Rattle.trees.specs.Trees.{split_count, IsSourceKind}
 use Rattle.trees.specs.Refutations.{below}
 use Rattle.trees.specs.Spent.{IsInSupport, IsOpen, IsDue, HasInHalf}
-use Rattle.trees.specs.Growing.{split_node, Grows}
+use Rattle.trees.specs.Growing.{Grows}
 use Rattle.trees.proofs.Growing.{grows_by_closed, grows_by_waiting, grows_by_split}
 use Rattle.trees.proofs.Ending.{splits_with_split, splits_with_closed, splits_with_waiting}
 use Rattle.implication.specs.declared.assumption.Beginning.{Beginning}
@@ -35,7 +36,6 @@ use Rattle.implication.specs.Assumptions.{entered_pins, left_of, ClosesUnder}
 use Rattle.implication.specs.Moves.{with_assumed}
 use Rattle.implication.specs.NodeScopes.{beginning_of, AllowAsNode}
 use Rattle.implication.proofs.MoreAssumed.{may_assumed, entered_assumed, assumed_cases}
-use Rattle.justify.specs.declared.choosing.Split.{Split}
 use Rattle.justify.specs.declared.closers.Closers.{Closers}
 use Rattle.justify.specs.declared.growing.Place.{Place}
 use Rattle.justify.specs.Closers.{ClosesByKept}
@@ -52,8 +52,8 @@ node_assumed a c rules target list source set halves with_set line state in_circ
 
 -- with the states of a half assumed of its source, the assumptions of a node leave the states of the node below the half
 pub node_half : (a : StateAlgebra) (c : Circuit) (rules : Rules) (target : Target) (list : List Assumption) (halves : List Half) (half : Half) (source : LineId) (set : StateSet)
-    → source.0 ≡ half.source
-    → ((state : State) → Has a.count set state ↔ ((state.0 < a.count) × IsInHalf a half.steadiness half.second state))
+    → source.0 ≡ half.split.line.0
+    → ((state : State) → Has a.count set state ↔ ((state.0 < a.count) × IsInHalf a half.split.kind half.second state))
     → AllowAsNode a c rules target list halves → AllowAsNodeWith a c rules target list source set (halves ++ half ∷ [])
 node_half a c rules target list halves half source set same means node line state in_circuit in_range =
     let at = node line state in_circuit in_range in (
@@ -230,44 +230,45 @@ module _ (a : StateAlgebra) (c : Circuit) (rules : Rules) (target : Target) wher
       }
 
       -- a split
-      module _ (left_open : ClosesUnder a c rules begun at_node → ⊥) (split : Split) (same : a ≡ algebra_of rules)
-          (in_support : IsInSupport c rules target.path split.source.0)
-          (in_half : (second : Bool) → HasInHalf a (label_at hull split.source.0) split.steadiness second) (mark : ScopeMark)
+      module _ (left_open : ClosesUnder a c rules begun at_node → ⊥) (split : CaseSplit) (same : a ≡ algebra_of rules)
+          (in_support : IsInSupport c rules target.path split.line.0) (kind : IsSourceKind split.kind)
+          (in_half : (second : Bool) → HasInHalf a (label_at hull split.line.0) split.kind second) (mark : ScopeMark)
           (at_end : mark.at ≡ length at_node) (closers : Option Closers) (closes : ClosesByKept a c rules target at_node closers) where
-        due : IsDue c rules target next.halves split.steadiness split.source.0
+        due : IsDue c rules target next.halves split
         due =
-            let P : Bool → StateAlgebra → Type 0 = λ second x. HasInHalf x (label_at hull split.source.0) split.steadiness second in
+            let P : Bool → StateAlgebra → Type 0 = λ second x. HasInHalf x (label_at hull split.line.0) split.kind second in
             record {
               hull = hull;
               is_open = is_open;
               in_support = in_support;
+              kind = kind;
               in_first = subst (P false) same (in_half false);
               in_second = subst (P true) same (in_half true);
             }
 
         half_at : (half_place : Place) (half : Bool) → IsHalfPlace a split mark closers half half_place
-            → IsPlace a c rules target at_node half_place (below next.halves split.steadiness split.source.0 half)
+            → IsPlace a c rules target at_node half_place (below next.halves split half)
         half_at half_place half is = record {
           longer = let one = next.here.longer in let two = assumed_longer a.count before place.source place.set in omega (arith, one, two);
           entered = next_entered;
           left_open = left_open;
           in_support = let P : LineId → Type 0 = λ source. IsInSupport c rules target.path source.0 in subst P (sym is.at_source) in_support;
           within = is.within;
-          node = node_half a c rules target at_node next.halves (record { source = split.source.0; steadiness = split.steadiness; second = half })
+          node = node_half a c rules target at_node next.halves (half_of split half)
               half_place.source half_place.set (ap (λ (l : LineId). l.0) is.at_source) is.means next_node;
           closes = subst (ClosesByKept a c rules target at_node) (sym is.keeps) closes;
         }
 
         pub growing_split : (first second : Place) → IsHalfPlace a split mark closers false first → IsHalfPlace a split mark closers true second → splits < budget
             → IsGrowing a c rules target budget at_node (first ∷ second ∷ places)
-            (nodes ++ split_node split.steadiness split.source.0 ∷ []) (splits + 1)
+            (nodes ++ Split split ∷ []) (splits + 1)
         growing_split first second in_first in_second less =
             let one : first.mark.at ≡ length at_node = ap (λ (m : ScopeMark). m.at) in_first.at_mark ∙ at_end in
             let two : second.mark.at ≡ length at_node = ap (λ (m : ScopeMark). m.at) in_second.at_mark ∙ at_end in
             let all_first : at_node ≡ take first.mark.at at_node = sym (take_all first.mark.at at_node (omega (arith, one))) in
             let all_second : at_node ≡ take second.mark.at at_node = sym (take_all second.mark.at at_node (omega (arith, two))) in
-            let above_first = below next.halves split.steadiness split.source.0 false in
-            let above_second = below next.halves split.steadiness split.source.0 true in
+            let above_first = below next.halves split false in
+            let above_second = below next.halves split true in
             let tree_first : DueTree = record { place = first; halves = above_first } in
             let tree_second : DueTree = record { place = second; halves = above_second } in
             let P : List Assumption → Type 0 = λ list. IsPlace a c rules target list first above_first in
@@ -282,15 +283,10 @@ module _ (a : StateAlgebra) (c : Circuit) (rules : Rules) (target : Target) wher
               left = ap (λ (xs : List Place). first ∷ second ∷ xs) next.left;
               stacked = stacked_more at_node tree_first (tree_second ∷ next.due) (omega (arith, one)) (subst P all_first (half_at first false in_first))
                   (subst S all_first stacked_second);
-              grows = grows_by_split c rules target nodes next.halves others next.grows split.steadiness split.source.0 due;
-              counted = let e = splits_with_split nodes split.steadiness split.source.0 in let f = next.counted in omega (arith, e, f);
+              grows = grows_by_split c rules target nodes next.halves others next.grows split due;
+              counted = let e = splits_with_split nodes split in let f = next.counted in omega (arith, e, f);
               within = omega (arith, less);
               waits = λ has. ⊎_elim
                   (λ (earlier : Contains nodes Waiting). let e = next.waits earlier in absurd (omega (arith, e, less)))
-                  (λ (same : split_node split.steadiness split.source.0 ≡ Waiting). absurd (not_waiting split.steadiness split.source.0 same))
-                  (Contains-push_cases nodes (split_node split.steadiness split.source.0) Waiting has);
+                  (λ (same : Split split ≡ Waiting). cc) (Contains-push_cases nodes (Split split) Waiting has);
             }
-          where
-            not_waiting : (steadiness : Bool) (source : ℕ) → split_node steadiness source ≡ Waiting → ⊥
-            not_waiting true source same = cc
-            not_waiting false source same = cc

@@ -8,7 +8,8 @@ use Rattle.netlist.specs.Circuit.{Circuit}
 use Rattle.state_sets.specs.declared.state.State.{State}
 use Rattle.state_sets.specs.declared.state.StateSet.{StateSet}
 use Rattle.state_sets.specs.StateAlgebra.{StateAlgebra}
-use Rattle.state_laws.specs.declared.half.Half.{Half}
+use Rattle.state_laws.specs.declared.split.Split.{Split}
+use Rattle.state_laws.specs.declared.split.Half.{Half}
 use Rattle.trees.specs.Spent.{IsOpen}
 use Rattle.implication.specs.declared.assumption.Beginning.{Beginning}
 use Rattle.implication.specs.declared.assumption.Assumption.{Assumption}
@@ -17,7 +18,6 @@ use Rattle.implication.specs.Clients.{IsRestored}
 use Rattle.implication.specs.Standing.{Standing, IsHullFrom, IsLabels, IsOpenFrom, IsOpenIn}
 use Rattle.implication.specs.NodeScopes.{StandsAtNode, AllowAsNode}
 use Rattle.justify.specs.Scoping.{IsStart}
-use Rattle.justify.specs.declared.choosing.Split.{Split}
 use Rattle.justify.specs.declared.visiting.NextSplit.{NextSplit}
 use Rattle.justify.specs.Choices.{IsUsefulSplit}
 use Rattle.justify.specs.Tests.{IsFitTest}
@@ -179,9 +179,10 @@ pub useful_stays : (a : StateAlgebra) (target : Target) (first last : Standing) 
 useful_stays a target first last restored split useful =
     let same = same_restored first last restored in
     record {
-      source = told_in_support_after target first last (same_setting first last same) split.source.0 useful.source;
+      source = told_in_support_after target first last (same_setting first last same) split.line.0 useful.source;
       splits = record {
         at_source = useful.splits.at_source;
+        kind = useful.splits.kind;
         in_half = λ labels is second. useful.splits.in_half labels (same_labels a target last first (same_back first last same) labels is) second;
       };
     }

@@ -26,7 +26,7 @@ use Rattle.state_sets.specs.Labellings.{label_at}
 use Rattle.state_sets.specs.LineStates.{state_under}
 use Rattle.state_sets.specs.Starts.{IsLeast}
 use Rattle.state_sets.specs.Hulls.{IsNarrowingOf, IsRestAmong, HasNoEmptySet, Closes}
-use Rattle.state_laws.specs.declared.half.Half.{Half}
+use Rattle.state_laws.specs.declared.split.Half.{Half}
 use Rattle.state_laws.proofs.Deciding.{rest_decides}
 use Rattle.state_laws.proofs.LinkedTrials.{closes_unless_linked}
 use Rattle.state_laws.proofs.Hulls.{closes_if_wider, widens_by_states, emptied_if_empty}

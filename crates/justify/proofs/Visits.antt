@@ -9,10 +9,10 @@ use Rattle.pd_base.specs.declared.ids.LineId.{LineId}
 use Rattle.pd_base.specs.declared.rules.Rules.{Rules}
 use Rattle.netlist.specs.Circuit.{Circuit}
 use Rattle.state_sets.specs.StateAlgebra.{StateAlgebra}
+use Rattle.state_laws.specs.declared.split.Split.{Split as CaseSplit}
 use Rattle.trees.specs.Algebras.{algebra_of}
 use Rattle.trees.specs.declared.tree.Node.{Node}
-use Rattle.trees.specs.declared.tree.Node.TheVariants.{Closed, Waiting}
-use Rattle.trees.specs.Growing.{split_node}
+use Rattle.trees.specs.declared.tree.Node.TheVariants.{Closed, Waiting, Split}
 use Rattle.trees.specs.Spent.{IsInSupport, IsOpen}
 use Rattle.implication.specs.declared.assumption.Beginning.{Beginning}
 use Rattle.implication.specs.declared.assumption.Assumption.{Assumption}
@@ -24,7 +24,6 @@ use Rattle.implication.specs.Moves.{with_assumed, grown, back_at, conflict_at}
 use Rattle.implication.specs.NodeScopes.{beginning_of, StandsAtNode, AllowAsNode}
 use Rattle.implication.proofs.NodeScopes.{closes_at_node}
 use Rattle.implication.proofs.ScopeLabels.{there_too, open_under}
-use Rattle.justify.specs.declared.choosing.Split.{Split}
 use Rattle.justify.specs.declared.closers.Closers.{Closers}
 use Rattle.justify.specs.declared.growing.Growth.{Growth}
 use Rattle.justify.specs.declared.growing.Place.{Place}
@@ -55,7 +54,7 @@ pub reverse_push : {X : Type 0} (xs ys : List X) (x : X) → ys ≡ xs ++ x ∷ 
 reverse_push xs ys x is = ap reverse is ∙ reverse-append xs (x ∷ [])
 
 -- after a split the places of its halves are the next ones
-places_split : (a : StateAlgebra) (split : Split) (mark : ScopeMark) (closers : Option Closers) (before_it after_it : Growth)
+places_split : (a : StateAlgebra) (split : CaseSplit) (mark : ScopeMark) (closers : Option Closers) (before_it after_it : Growth)
     (at : IsSplitAt a split mark closers before_it after_it)
     → reverse after_it.places.items ≡ at.first_place ∷ at.second_place ∷ reverse before_it.places.items
 places_split a split mark closers before_it after_it at =
@@ -210,7 +209,7 @@ module _ (a : StateAlgebra) (target : Target) (budget : ℕ) (old : Standing) (s
             (growing_waiting a old.net old.rules target budget old.assumptions place places nodes splits_before next failed.hull open_there
             spent)
 
-        split_growing : (split : Split) (mark : ScopeMark) (closers : Option Closers) → mark.at ≡ length last.assumptions
+        split_growing : (split : CaseSplit) (mark : ScopeMark) (closers : Option Closers) → mark.at ≡ length last.assumptions
             → IsUsefulSplit a target last split → ClosesByKept a last.net last.rules target last.assumptions closers → splits_before < budget
             → (before_it after_it : Growth) → IsSplitAt a split mark closers before_it after_it → reverse before_it.places.items ≡ places
             → before_it.nodes.items ≡ nodes → before_it.splits ≡ splits_before
@@ -218,19 +217,19 @@ module _ (a : StateAlgebra) (target : Target) (budget : ℕ) (old : Standing) (s
             after_it.splits
         split_growing split mark closers at_end choice closes less before_it after_it at same_places same_nodes same_count =
             let first = at.first_place in let second = at.second_place in
-            let P : Circuit → Rules → Type 0 = λ c rules. IsInSupport c rules target.path split.source.0 in
+            let P : Circuit → Rules → Type 0 = λ c rules. IsInSupport c rules target.path split.line.0 in
             let Q : List Assumption → Type 0 = λ list. ClosesByKept a old.net old.rules target list closers in
             let R : Circuit → Rules → Type 0 = λ c rules. ClosesByKept a c rules target last.assumptions closers in
             let turned : reverse after_it.places.items ≡ first ∷ second ∷ places =
             places_split a split mark closers before_it after_it at ∙ ap (λ (ps : List Place). first ∷ second ∷ ps) same_places in
             growing_same a old.net last.net old.rules last.rules target budget at_node last.assumptions (first ∷ second ∷ places)
-            (reverse after_it.places.items) (nodes ++ split_node split.steadiness split.source.0 ∷ []) after_it.nodes.items
+            (reverse after_it.places.items) (nodes ++ Split split ∷ []) after_it.nodes.items
             (splits_before + 1) after_it.splits last_net last_rules (sym same_list) (sym turned)
-            (sym (at.nodes ∙ ap (λ (ns : List Node). ns ++ split_node split.steadiness split.source.0 ∷ []) same_nodes))
+            (sym (at.nodes ∙ ap (λ (ns : List Node). ns ++ Split split ∷ []) same_nodes))
             (sym (at.counted ∙ ap (λ k. k + 1) same_count))
             (growing_split a old.net old.rules target budget old.assumptions place places nodes splits_before next failed.hull open_there
             node_left_open split same_states
-            (there_too P last.net old.net last.rules old.rules (sym last_net) (sym last_rules) choice.source.in_support) (choice.splits.in_half failed.hull failed.labels)
+            (there_too P last.net old.net last.rules old.rules (sym last_net) (sym last_rules) choice.source.in_support) choice.splits.kind (choice.splits.in_half failed.hull failed.labels)
             mark (at_end ∙ ap length same_list) closers
             (subst Q same_list (there_too R last.net old.net last.rules old.rules (sym last_net) (sym last_rules) closes)) first second at.in_first at.in_second less)
 
@@ -270,7 +269,7 @@ pub extended_by_one : (a : StateAlgebra) (target : Target) (last : Standing) (bu
 extended_by_one a target last budget before_it after_it (waits spent at) =
     ap length at.nodes ∙ length_push before_it.nodes.items Waiting
 extended_by_one a target last budget before_it after_it (splits split mark closers at_end choice closes less at) =
-    ap length at.nodes ∙ length_push before_it.nodes.items (split_node split.steadiness split.source.0)
+    ap length at.nodes ∙ length_push before_it.nodes.items (Split split)
 
 pub extended_left : (a : StateAlgebra) (target : Target) (last : Standing) (budget : ℕ) (before_it after_it : Growth)
     → IsExtended a target last budget before_it after_it

@@ -5,9 +5,10 @@ use Rattle.pd_base.specs.declared.ids.LineId.{LineId}
 use Rattle.state_sets.specs.declared.state.StateSet.{StateSet}
 use Rattle.state_sets.specs.StateAlgebra.{StateAlgebra}
 use Rattle.state_sets.specs.Labellings.{label_at}
+use Rattle.state_laws.specs.declared.split.Split.{Split}
 use Rattle.trees.specs.Spent.{HasInHalf}
+use Rattle.trees.specs.Trees.{IsSourceKind}
 use Rattle.implication.specs.Standing.{Standing, IsTold, IsLabels}
-use Rattle.justify.specs.declared.choosing.Split.{Split}
 use Rattle.justify.specs.Scoping.{IsToldInSupport}
 use Rattle.justify.specs.Trying.{IsSingle}
 
@@ -23,13 +24,14 @@ AreSingle a target standing = (source : ℕ) → IsToldInSupport target standing
 abbrev pub AreSingleAmong : StateAlgebra → Standing → List LineId → Type 0
 AreSingleAmong a standing sources = All (λ source. IsTold standing source.0 → IsSingleAt a standing source.0) sources
 
--- the split is at this source, whose label has a state in each half
+-- the split is at this source, by its last value or its steadiness, and the source's label has a state in each half
 pub record SplitsAt (a : StateAlgebra) (standing : Standing) (source : LineId) (split : Split) : Type 0 where
-  pub at_source : split.source ≡ source
+  pub at_source : split.line ≡ source
+  pub kind : IsSourceKind split.kind
   pub in_half : (labels : List StateSet) → IsLabels a standing labels → (second : Bool)
-      → HasInHalf a (label_at labels source.0) split.steadiness second
+      → HasInHalf a (label_at labels source.0) split.kind second
 
 -- the split is at a source of the support that is told, whose label has a state in each half
 pub record IsUsefulSplit (a : StateAlgebra) (target : Target) (standing : Standing) (split : Split) : Type 0 where
-  pub source : IsToldInSupport target standing split.source.0
-  pub splits : SplitsAt a standing split.source split
+  pub source : IsToldInSupport target standing split.line.0
+  pub splits : SplitsAt a standing split.line split

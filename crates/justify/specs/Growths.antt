@@ -9,21 +9,21 @@ use Rattle.state_sets.specs.declared.state.StateSet.{StateSet}
 use Rattle.state_sets.specs.States.{Has, IsWithin, all_states}
 use Rattle.state_sets.specs.StateAlgebra.{StateAlgebra}
 use Rattle.state_sets.specs.Labellings.{label_at}
-use Rattle.state_sets.specs.Starts.{IsInHalf}
-use Rattle.state_laws.specs.declared.half.Half.{Half}
+use Rattle.state_laws.specs.declared.split.Split.{Split as CaseSplit}
+use Rattle.state_laws.specs.declared.split.Half.{Half}
+use Rattle.state_laws.specs.Halves.{IsInHalf}
 use Rattle.state_laws.specs.Nodes.{MayBe}
 use Rattle.trees.specs.declared.tree.Node.{Node}
-use Rattle.trees.specs.declared.tree.Node.TheVariants.{Waiting}
+use Rattle.trees.specs.declared.tree.Node.TheVariants.{Waiting, Split}
 use Rattle.trees.specs.Spent.{IsInSupport}
 use Rattle.trees.specs.Trees.{split_count}
-use Rattle.trees.specs.Growing.{split_node, Grows}
+use Rattle.trees.specs.Growing.{Grows}
 use Rattle.implication.specs.declared.assumption.Assumption.{Assumption}
 use Rattle.implication.specs.declared.scope.ScopeMark.{ScopeMark}
 use Rattle.implication.specs.Assumptions.{entered_pins, MayUnder, ClosesUnder}
 use Rattle.implication.specs.Standing.{Standing, IsLabels, IsTold, IsOpenIn, IsEmptiedIn}
 use Rattle.implication.specs.Moves.{with_assumed, grown, back_at, risen}
 use Rattle.implication.specs.NodeScopes.{beginning_of, AllowSame, StandsAtNode}
-use Rattle.justify.specs.declared.choosing.Split.{Split}
 use Rattle.justify.specs.declared.closers.Closers.{Closers}
 use Rattle.justify.specs.declared.growing.Growth.{Growth}
 use Rattle.justify.specs.declared.growing.Place.{Place}
@@ -32,18 +32,18 @@ use Rattle.justify.specs.Choices.{IsUsefulSplit}
 use Rattle.justify.specs.Closers.{ClosesByKept, kept_of}
 
 -- the place of a half of a split: the states of that half are assumed of its source, and what closed the trial above is kept
-pub record IsHalfPlace (a : StateAlgebra) (split : Split) (mark : ScopeMark) (closers : Option Closers) (second : Bool) (place : Place) : Type 0 where
+pub record IsHalfPlace (a : StateAlgebra) (split : CaseSplit) (mark : ScopeMark) (closers : Option Closers) (second : Bool) (place : Place) : Type 0 where
   pub at_mark : place.mark ≡ mark
-  pub at_source : place.source ≡ split.source
+  pub at_source : place.source ≡ split.line
   pub keeps : place.closers ≡ closers
   pub within : IsWithin a.count place.set
-  pub means : (state : State) → Has a.count place.set state ↔ ((state.0 < a.count) × IsInHalf a split.steadiness second state)
+  pub means : (state : State) → Has a.count place.set state ↔ ((state.0 < a.count) × IsInHalf a split.kind second state)
 
 -- a split is one node more, and the places of its halves, the first half last
-pub record IsSplitAt (a : StateAlgebra) (split : Split) (mark : ScopeMark) (closers : Option Closers) (old new : Growth) : Type 0 where
+pub record IsSplitAt (a : StateAlgebra) (split : CaseSplit) (mark : ScopeMark) (closers : Option Closers) (old new : Growth) : Type 0 where
   pub first_place : Place
   pub second_place : Place
-  pub nodes : new.nodes.items ≡ old.nodes.items ++ split_node split.steadiness split.source.0 ∷ []
+  pub nodes : new.nodes.items ≡ old.nodes.items ++ Split split ∷ []
   pub places : new.places.items ≡ (old.places.items ++ second_place ∷ []) ++ first_place ∷ []
   pub counted : new.splits ≡ old.splits + 1
   pub in_first : IsHalfPlace a split mark closers false first_place
@@ -58,7 +58,7 @@ pub record IsWaitingAt (old new : Growth) : Type 0 where
 -- an open node becomes a leaf that waits where the budget is spent, and else a split that may be chosen
 pub data IsExtended (a : StateAlgebra) (target : Target) (standing : Standing) (budget : ℕ) (old new : Growth) : Type 0 where
   waits : old.splits ≡ budget → IsWaitingAt old new → IsExtended a target standing budget old new
-  splits : (split : Split) (mark : ScopeMark) (closers : Option Closers) → mark.at ≡ length standing.assumptions
+  splits : (split : CaseSplit) (mark : ScopeMark) (closers : Option Closers) → mark.at ≡ length standing.assumptions
       → IsUsefulSplit a target standing split → ClosesByKept a standing.net standing.rules target standing.assumptions closers
       → old.splits < budget → IsSplitAt a split mark closers old new → IsExtended a target standing budget old new
 

@@ -15,7 +15,7 @@ use Rattle.state_sets.specs.States.{Has}
 use Rattle.state_sets.specs.StateAlgebra.{StateAlgebra}
 use Rattle.state_sets.specs.Labellings.{label_at}
 use Rattle.state_sets.specs.LineStates.{state_under}
-use Rattle.state_laws.specs.declared.half.Half.{Half}
+use Rattle.state_laws.specs.declared.split.Half.{Half}
 use Rattle.trees.specs.Spent.{IsInSupport, IsOpen}
 use Rattle.implication.specs.Assumptions.{entered_pins, MayUnder, ClosesUnder}
 use Rattle.implication.specs.Moves.{risen}

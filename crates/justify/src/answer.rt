@@ -12,7 +12,7 @@ pub enum Found {
     /// A pair of vectors that meets the conditions. A source outside the support of the path is 0 under the first one, and under the second
     /// it has what its link asks, or else 0.
     Test(Pair),
-    /// A tree of cases that refutes them: no pair meets them. It has at most as many splits as the budget.
+    /// A tree of cases that refutes them: no pair meets them. It has at most as many splits as the budget, all at sources.
     Refuted(Tree),
     /// A tree of cases that spent the budget: it has exactly so many splits, and a pair was tried and failed at each open node.
     Spent(Tree),

@@ -12,18 +12,12 @@ ghost use Rattle.justify.specs.Scoping.{SuitsSearch};
 ghost use Rattle.justify.specs.Choices.{IsUsefulSplit, AreSingle, AreSingleAmong, IsSingleAt};
 
 use crate::desk::Desk;
-use crate::halves::way_to_split;
+use crate::halves::kind_to_split;
 use implication::{Scope, Setting};
 use pair_judging::Target;
 use pd_base::LineId;
+use state_laws::Split;
 use state_sets::Algebra;
-
-// A split of the cases at a source, by steadiness or by the last value.
-#[derive(Clone, Copy)]
-pub(crate) struct Split {
-    pub(crate) source: LineId,
-    pub(crate) steadiness: bool,
-}
 
 // A split that was chosen, and the place among the cone's sources from which on to look below it.
 #[derive(Clone, Copy)]
@@ -133,6 +127,6 @@ fn split_at<A: Algebra, S: Setting>(
     if !scope.engine.tells(source) {
         return None;
     }
-    let steadiness = way_to_split::<A>(scope.label(source))?;
-    Some(Split { source, steadiness })
+    let kind = kind_to_split::<A>(scope.label(source))?;
+    Some(Split { line: source, kind })
 }

@@ -1,14 +1,13 @@
 // The tree that a search grows: its nodes in preorder, and the places behind them at which trees are still due.
 ghost use Rattle.std.specs.Prelude.{◌≡◌, ◌-◌, ◌<◌, ◌^◌, ◌∷◌, [], IfOk};
-ghost use Rattle.trees.specs.Growing.{split_node};
 ghost use Rattle.justify.specs.Growths.{root_place, IsSplitAt, IsHalfPlace};
 
-use crate::choosing::Split;
 use crate::closers::Closers;
 use hulls::half_states;
 use implication::ScopeMark;
 use pd_base::{LineId, OutOfMemory};
 use search_hints::Frontier;
+use state_laws::Split;
 use state_sets::{Algebra, StateSet, every_state};
 use std::alloc::Global;
 use trees::Node;
@@ -95,24 +94,13 @@ impl Growth {
         requires { self.old.splits < 2 ^ 32 - 1 }
         ensures { IfOk result (λ done. IsSplitAt A.algebra split mark closers.now self.old self.new) }
     {
-        self.nodes.push(node_of(split))?;
+        self.nodes.push(Node::Split(split))?;
         self.places
             .push(half_place::<A>(split, mark, sought, *closers, true))?;
         self.places
             .push(half_place::<A>(split, mark, sought, *closers, false))?;
         self.splits += 1;
         Ok(())
-    }
-}
-
-// The node of a split.
-fn node_of(split: Split) -> Node
-    ensures { result ≡ split_node split.steadiness split.source.0 }
-{
-    if split.steadiness {
-        Node::Steadiness(split.source.0)
-    } else {
-        Node::Value(split.source.0)
     }
 }
 
@@ -128,8 +116,8 @@ fn half_place<A: Algebra>(
 {
     Place {
         mark,
-        source: split.source,
-        set: half_states::<A>(split.steadiness, second),
+        source: split.line,
+        set: half_states::<A>(split.kind, second),
         sought,
         closers,
     }

@@ -17,7 +17,7 @@ ghost use Rattle.justify.specs.Searches.{IsSearching, SearchGoesOn, IsVisit, Add
 ghost use Rattle.pair_judging.specs.Targets.{seen_target};
 
 use crate::Unfinished;
-use crate::choosing::{Split, choose};
+use crate::choosing::choose;
 use crate::closers::Closers;
 use crate::desk::Desk;
 use crate::entering::enter;
@@ -30,6 +30,7 @@ use implication::{Scope, Setting};
 use pair_judging::Target;
 use pd_base::{LineId, OutOfMemory, Pair};
 use search_hints::{Frontier, Lead, Sight, follow};
+use state_laws::Split;
 use state_sets::{Algebra, StateSet};
 use std::alloc::Global;
 use trees::Node;
@@ -102,7 +103,7 @@ fn visit_node<A: Algebra, S: Setting>(
     }
     // the source of the split is tried first, before it is known what closes the trial
     let next = choose_next(scope, task, desk, place.sought, &None);
-    let split = next.map(|next| next.split.source);
+    let split = next.map(|next| next.split.line);
     let test = try_node(alloc, scope, &task.target, desk, &place.closers, split)?;
     match test {
         Some(pair) => Ok(Some(pair)),

@@ -14,20 +14,21 @@ use Rattle.netlist.specs.Lawful.{IsCircuit}
 use Rattle.netlist.specs.Paths.{IsPath}
 use Rattle.netlist.specs.Values.{value}
 use Rattle.netlist.specs.Waves.{Delays}
-use Rattle.state_laws.specs.declared.half.Half.{Half}
+use Rattle.state_laws.specs.declared.split.Split.{Split as CaseSplit}
+use Rattle.state_laws.specs.declared.split.Half.{Half}
 use Rattle.path_laws.proofs.StepCounts.{prefix_has_few_steps}
 use Rattle.runs.specs.declared.run.ListedPath.{ListedPath}
 use Rattle.runs.specs.declared.run.Proof.{Proof}
 use Rattle.runs.specs.declared.run.Run.{Run}
-use Rattle.trees.specs.declared.tree.Node.{Node}
-use Rattle.trees.specs.declared.tree.Node.TheVariants.{Closed, Waiting, Value, Steadiness}
-use Rattle.runs.specs.Lawful.{AreNumbered, IsLawfulProof, IsLawfulRun, IsLawfulTest, IsOnSource, none_named}
+use Rattle.trees.specs.declared.tree.Node.TheVariants.{Closed, Waiting, Split}
+use Rattle.runs.specs.Lawful.{AreNumbered, IsLawfulProof, IsLawfulRun, IsLawfulTest, IsNodeOf, none_named}
 use Rattle.trees.specs.Trees.{Cases, preorder}
-use Rattle.trees.specs.Trees.Cases.{closed, waiting, by_value, by_steadiness}
+use Rattle.trees.specs.Trees.Cases.{closed, waiting, split_at}
 use Rattle.runs.specs.Verdicts.{verdicts_of}
 use Rattle.runs.proofs.Nameable.{path_is_nameable}
-use Rattle.trees.specs.Refutations.{RefutesBelow, below}
+use Rattle.trees.specs.Refutations.{IsSplitOf, RefutesBelow, below}
 use Rattle.trees.specs.Spent.{IsSpentBelow}
+use Rattle.trees.proofs.SourceSplits.{due_split}
 use Rattle.good_runs.specs.Faults.{IsNumber, routes_of}
 use Rattle.good_runs.proofs.Numbers.{all_at_number, number_of_place, number_within}
 use Rattle.prefix_sensitize.specs.Answers.{IsNumberedTest, Written}
@@ -38,40 +39,33 @@ use Rattle.prefix_sensitize.specs.Searches.{AreSearches, Searches}
 use Rattle.prefix_sensitize.proofs.GoodRuns.{is_found_proof, routes_are}
 
 module _ (c : Circuit) where
-  -- a split and its halves are on sources
-  split_on_sources : (split : Node) (first second : Cases) → IsOnSource c split → All (IsOnSource c) (preorder first)
-      → All (IsOnSource c) (preorder second) → All (IsOnSource c) (split ∷ (preorder first ++ preorder second))
-  split_on_sources split first second on left right =
-      All-cons (IsOnSource c) split (preorder first ++ preorder second) on
-      (All-append (IsOnSource c) (preorder first) (preorder second) left right)
+  module _ (rules : Rules) where
+    -- a split that a refutation may have, and the nodes of its halves
+    split_of_rules : (split : CaseSplit) (first second : Cases) → IsSplitOf c rules split → All (IsNodeOf c rules) (preorder first)
+        → All (IsNodeOf c rules) (preorder second) → All (IsNodeOf c rules) (preorder (split_at split first second))
+    split_of_rules split first second is left right =
+        All-cons (IsNodeOf c rules) (Split split) (preorder first ++ preorder second) is
+        (All-append (IsNodeOf c rules) (preorder first) (preorder second) left right)
 
-  -- the splits of a refutation are on sources
-  refutes_on_sources : (rules : Rules) (target : Target) (halves : List Half) (cases : Cases)
-      → RefutesBelow c rules target halves cases → All (IsOnSource c) (preorder cases)
-  refutes_on_sources rules target halves closed refutes = All-cons (IsOnSource c) Closed [] tt (All-nil (IsOnSource c))
-  refutes_on_sources rules target halves waiting refutes = absurd refutes
-  refutes_on_sources rules target halves (by_value source first second) refutes =
-      split_on_sources (Value source) first second refutes.0
-      (refutes_on_sources rules target (below halves false source false) first refutes.1)
-      (refutes_on_sources rules target (below halves false source true) second refutes.2)
-  refutes_on_sources rules target halves (by_steadiness source first second) refutes =
-      split_on_sources (Steadiness source) first second refutes.0
-      (refutes_on_sources rules target (below halves true source false) first refutes.1)
-      (refutes_on_sources rules target (below halves true source true) second refutes.2)
+    -- the nodes of a refutation are nodes of its rules
+    refutes_of_rules : (target : Target) (halves : List Half) (cases : Cases)
+        → RefutesBelow c rules target halves cases → All (IsNodeOf c rules) (preorder cases)
+    refutes_of_rules target halves closed refutes = All-cons (IsNodeOf c rules) Closed [] tt (All-nil (IsNodeOf c rules))
+    refutes_of_rules target halves waiting refutes = absurd refutes
+    refutes_of_rules target halves (split_at split first second) refutes =
+        split_of_rules split first second refutes.0
+        (refutes_of_rules target (below halves split false) first refutes.1)
+        (refutes_of_rules target (below halves split true) second refutes.2)
 
-  -- and so are those of a spent tree
-  spent_on_sources : (rules : Rules) (target : Target) (halves : List Half) (cases : Cases)
-      → IsSpentBelow c rules target halves cases → All (IsOnSource c) (preorder cases)
-  spent_on_sources rules target halves closed spends = All-cons (IsOnSource c) Closed [] tt (All-nil (IsOnSource c))
-  spent_on_sources rules target halves waiting spends = All-cons (IsOnSource c) Waiting [] tt (All-nil (IsOnSource c))
-  spent_on_sources rules target halves (by_value source first second) spends =
-      split_on_sources (Value source) first second spends.0.in_support.is_source
-      (spent_on_sources rules target (below halves false source false) first spends.1)
-      (spent_on_sources rules target (below halves false source true) second spends.2)
-  spent_on_sources rules target halves (by_steadiness source first second) spends =
-      split_on_sources (Steadiness source) first second spends.0.in_support.is_source
-      (spent_on_sources rules target (below halves true source false) first spends.1)
-      (spent_on_sources rules target (below halves true source true) second spends.2)
+    -- and so are those of a spent tree
+    spent_of_rules : (target : Target) (halves : List Half) (cases : Cases)
+        → IsSpentBelow c rules target halves cases → All (IsNodeOf c rules) (preorder cases)
+    spent_of_rules target halves closed spends = All-cons (IsNodeOf c rules) Closed [] tt (All-nil (IsNodeOf c rules))
+    spent_of_rules target halves waiting spends = All-cons (IsNodeOf c rules) Waiting [] tt (All-nil (IsNodeOf c rules))
+    spent_of_rules target halves (split_at split first second) spends =
+        split_of_rules split first second (due_split c rules target halves split spends.0)
+        (spent_of_rules target (below halves split false) first spends.1)
+        (spent_of_rules target (below halves split true) second spends.2)
 
   module _ (circuit : IsCircuit c) (routes : List Route) (are_paths : All (IsPath c) routes) (few : length routes ≤ MOST_PATHS)
       (rules : Rules) (budget : ℕ) where
@@ -88,22 +82,22 @@ module _ (c : Circuit) where
           steps = omega arith;
         }
 
-    -- each proof that was found is lawful
-    pub found_is_lawful : (proof : Proof) → IsFoundProof c rules budget routes proof → IsLawfulProof proof × All (IsOnSource c) proof.tree
+    -- each proof that was found is lawful, and its nodes are nodes of the rules
+    pub found_is_lawful : (proof : Proof) → IsFoundProof c rules budget routes proof → IsLawfulProof proof × All (IsNodeOf c rules) proof.tree
     found_is_lawful proof found = by proof.spent refl
       where
-        by : (spends : Bool) → proof.spent ≡ spends → IsLawfulProof proof × All (IsOnSource c) proof.tree
+        by : (spends : Bool) → proof.spent ≡ spends → IsLawfulProof proof × All (IsNodeOf c rules) proof.tree
         by true is =
             let good = found.spent is in
             let whole = good.whole in (
               names_listed proof good.listed good.is_listed (omega arith),
-              subst (All (IsOnSource c)) (sym good.is_spent.tree) (spent_on_sources rules _ [] good.is_spent.cases good.is_spent.spent),
+              subst (All (IsNodeOf c rules)) (sym good.is_spent.tree) (spent_of_rules rules _ [] good.is_spent.cases good.is_spent.spent),
             )
         by false is =
             let good = (found.refutes is).0 in (
               names_listed proof good.listed good.is_listed good.has_steps,
-              subst (All (IsOnSource c)) (sym good.refutation.tree)
-                  (refutes_on_sources rules _ [] good.refutation.cases good.refutation.refutes),
+              subst (All (IsNodeOf c rules)) (sym good.refutation.tree)
+                  (refutes_of_rules rules _ [] good.refutation.cases good.refutation.refutes),
             )
 
   -- a test that was written is lawful with the bits that it expects
@@ -138,7 +132,7 @@ module _ (c : Circuit) (circuit : IsCircuit c) (delays : Delays) (searches : Sea
 
   -- both laws of proofs
   abbrev Both : Proof → Type 0
-  Both proof = IsLawfulProof proof × All (IsOnSource c) proof.tree
+  Both proof = IsLawfulProof proof × All (IsNodeOf c run.rules) proof.tree
 
   proofs_are_lawful : All Both run.proofs
   proofs_are_lawful place d within =
@@ -159,6 +153,6 @@ module _ (c : Circuit) (circuit : IsCircuit c) (delays : Delays) (searches : Sea
     };
     proofs = record {
       lawful = All-weaker Both IsLawfulProof (λ proof has. has.0) run.proofs proofs_are_lawful;
-      on_sources = All-weaker Both (λ (proof : Proof). All (IsOnSource c) proof.tree) (λ proof has. has.1) run.proofs proofs_are_lawful;
+      nodes = All-weaker Both (λ (proof : Proof). All (IsNodeOf c run.rules) proof.tree) (λ proof has. has.1) run.proofs proofs_are_lawful;
     };
   }

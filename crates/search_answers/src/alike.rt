@@ -9,33 +9,41 @@ use crate::sweeping::Assumed;
 use netlist::Netlist;
 use pd_base::Direction::{Fall, Rise};
 use pd_base::Kind::{Nonrobust, Robust};
-use pd_base::{Direction, Kind, OutOfMemory, Path, Rules};
+use pd_base::{Direction, Kind, LineId, OutOfMemory, Path, Rules};
 use row_answers::{Text, Trouble, path};
-use state_laws::Half;
+use state_laws::{Half, Split, SplitKind};
 use std::alloc::Global;
 
 // Halves of splits on the first two sources.
 const FIRST_AT_0: Half = Half {
-    source: 0,
-    steadiness: false,
+    split: Split {
+        line: LineId(0),
+        kind: SplitKind::LastValue,
+    },
     second: false,
 };
 
 const FIRST_STEADY: Half = Half {
-    source: 0,
-    steadiness: true,
+    split: Split {
+        line: LineId(0),
+        kind: SplitKind::Steadiness,
+    },
     second: false,
 };
 
 const SECOND_AT_1: Half = Half {
-    source: 1,
-    steadiness: false,
+    split: Split {
+        line: LineId(1),
+        kind: SplitKind::LastValue,
+    },
     second: true,
 };
 
 const SECOND_MOVES: Half = Half {
-    source: 1,
-    steadiness: true,
+    split: Split {
+        line: LineId(1),
+        kind: SplitKind::Steadiness,
+    },
     second: true,
 };
 
@@ -130,8 +138,8 @@ fn all_alike(alloc: Global, net: &Netlist, assumed: &Assumed) -> Result<bool, Ou
 
 // Whether each half is on a source.
 fn are_on_sources(net: &Netlist, halves: &[Half]) -> bool
-    ensures { IsTrue result → All (λ half. half.source < source_count net.now) halves.now }
+    ensures { IsTrue result → All (λ half. half.split.line.0 < source_count net.now) halves.now }
 {
     let sources = net.sources();
-    halves.iter().all(|half| half.source < sources)
+    halves.iter().all(|half| half.split.line.0 < sources)
 }

@@ -2,6 +2,7 @@
 use justify::Found;
 use pd_base::{Pair, Path};
 use row_answers::{RuledFault, Text};
+use state_laws::SplitKind;
 use trees::Node;
 
 /// A test of a path is searched for.
@@ -56,7 +57,7 @@ fn add_pair(pair: &Pair, answer: &mut Text) {
     answer.add_bits(pair.second());
 }
 
-// The nodes in preorder: V splits a source by value, H by steadiness, X is closed, O was left open.
+// The nodes in preorder: V splits a line by its last value, H by its steadiness, F by its first value, X is closed, O was left open.
 fn add_tree(word: &str, nodes: &[Node], answer: &mut Text) {
     answer.add(word);
     for node in nodes {
@@ -69,7 +70,15 @@ fn add_node(node: Node, answer: &mut Text) {
     match node {
         Node::Closed => answer.add(" X"),
         Node::Waiting => answer.add(" O"),
-        Node::Value(source) => answer.add_number(" V", source as u64),
-        Node::Steadiness(source) => answer.add_number(" H", source as u64),
+        Node::Split(split) => answer.add_number(letter_of(split.kind), split.line.0 as u64),
+    }
+}
+
+// The letter of a kind of splits.
+fn letter_of(kind: SplitKind) -> &'static str {
+    match kind {
+        SplitKind::LastValue => " V",
+        SplitKind::Steadiness => " H",
+        SplitKind::FirstValue => " F",
     }
 }

@@ -24,7 +24,7 @@ pub(crate) fn whole_alike(
     assumed: &Assumed,
 ) -> Result<bool, OutOfMemory>
     requires source { assumed.now.source.0 < source_count net.now }
-    requires halves { All (λ half. half.source < source_count net.now) assumed.now.halves.now }
+    requires halves { All (λ half. half.split.line.0 < source_count net.now) assumed.now.halves.now }
     requires unlinked { IsUnlinked assumed.now.rules.now }
 {
     let marks = vec![in alloc; true; net.lines() as usize]?;
@@ -40,7 +40,7 @@ fn marked_alike(
     marks: &[bool],
 ) -> Result<bool, OutOfMemory>
     requires source { assumed.now.source.0 < source_count net.now }
-    requires halves { All (λ half. half.source < source_count net.now) assumed.now.halves.now }
+    requires halves { All (λ half. half.split.line.0 < source_count net.now) assumed.now.halves.now }
     requires unlinked { IsUnlinked assumed.now.rules.now }
 {
     let rules = assumed.rules;
@@ -55,7 +55,7 @@ pub(crate) fn within_alike(
     assumed: &Assumed,
 ) -> Result<bool, OutOfMemory>
     requires source { assumed.now.source.0 < source_count net.now }
-    requires halves { All (λ half. half.source < source_count net.now) assumed.now.halves.now }
+    requires halves { All (λ half. half.split.line.0 < source_count net.now) assumed.now.halves.now }
     requires unlinked { IsUnlinked assumed.now.rules.now }
 {
     let mut marks = vec![in alloc; false; net.lines() as usize]?;
@@ -89,7 +89,7 @@ fn cone_alike(
     marks: &mut [bool],
 ) -> Result<bool, OutOfMemory>
     requires source { assumed.now.source.0 < source_count net.now }
-    requires halves { All (λ half. half.source < source_count net.now) assumed.now.halves.now }
+    requires halves { All (λ half. half.split.line.0 < source_count net.now) assumed.now.halves.now }
     requires unlinked { IsUnlinked assumed.now.rules.now }
     requires end { end.0 < line_count net.now }
     requires places { length marks.old ≡ line_count net.now }
@@ -111,7 +111,7 @@ fn prefixes_alike<S: Setting>(
 ) -> Result<bool, OutOfMemory>
     requires idle { engine.old.beginning ≡ None }
     requires source { assumed.now.source.0 < source_count engine.old.net }
-    requires halves { All (λ half. half.source < source_count engine.old.net) assumed.now.halves.now }
+    requires halves { All (λ half. half.split.line.0 < source_count engine.old.net) assumed.now.halves.now }
     requires told { AreMarkedTold engine.old marks.now }
     requires unlinked { IsUnlinked engine.old.rules }
 {
@@ -137,7 +137,7 @@ fn scope_alike<S: Setting>(
 ) -> Result<bool, OutOfMemory>
     requires idle { engine.old.beginning ≡ None }
     requires source { assumed.now.source.0 < source_count engine.old.net }
-    requires halves { All (λ half. half.source < source_count engine.old.net) assumed.now.halves.now }
+    requires halves { All (λ half. half.split.line.0 < source_count engine.old.net) assumed.now.halves.now }
     requires told { AreMarkedTold engine.old marks.now }
     requires unlinked { IsUnlinked engine.old.rules }
     ensures idle { engine.new.beginning ≡ None }
@@ -159,7 +159,7 @@ fn begun_alike<S: Setting>(
     marks: &[bool],
 ) -> Result<bool, OutOfMemory>
     requires begun { IsSome (standing scope.old).beginning }
-    requires halves { All (λ half. half.source < source_count (standing scope.old).net) assumed.now.halves.now }
+    requires halves { All (λ half. half.split.line.0 < source_count (standing scope.old).net) assumed.now.halves.now }
     requires told { AreMarkedTold (standing scope.old) marks.now }
     requires unlinked { IsUnlinked (standing scope.old).rules }
     ensures scope { IsSameScope scope.old scope.new }
@@ -188,7 +188,7 @@ fn entered_alike<S: Setting>(
     assumed: &Assumed,
     marks: &[bool],
 ) -> Result<bool, OutOfMemory>
-    requires halves { All (λ half. half.source < source_count (standing scope.old).net) assumed.now.halves.now }
+    requires halves { All (λ half. half.split.line.0 < source_count (standing scope.old).net) assumed.now.halves.now }
     requires unlinked { IsUnlinked (standing scope.old).rules }
     ensures scope { IsSameScope scope.old scope.new }
     ensures restored { IsRestored (standing scope.old) (standing scope.new) }
@@ -227,7 +227,7 @@ fn halves_alike<S: Setting>(
     assumed: &Assumed,
     marks: &[bool],
 ) -> Result<bool, OutOfMemory>
-    requires halves { All (λ half. half.source < source_count (standing scope.old).net) assumed.now.halves.now }
+    requires halves { All (λ half. half.split.line.0 < source_count (standing scope.old).net) assumed.now.halves.now }
     requires unlinked { IsUnlinked (standing scope.old).rules }
     ensures scope { IsSameScope scope.old scope.new }
     ensures restored { IsRestored (standing scope.old) (standing scope.new) }
@@ -247,7 +247,7 @@ fn inner_alike<S: Setting>(
     assumed: &Assumed,
     marks: &[bool],
 ) -> Result<bool, OutOfMemory>
-    requires halves { All (λ half. half.source < source_count (standing scope.old).net) assumed.now.halves.now }
+    requires halves { All (λ half. half.split.line.0 < source_count (standing scope.old).net) assumed.now.halves.now }
     requires unlinked { IsUnlinked (standing scope.old).rules }
     ensures scope { IsSameScope scope.old scope.new }
     ensures restored { IsRestored (standing scope.old) (standing scope.new) }
@@ -263,13 +263,13 @@ fn inner_alike<S: Setting>(
 // Assumes these halves.
 #[tactic(auto, using(crate::proofs::Told::unlinked_told))]
 fn assume_all<S: Setting>(scope: &mut Scope<FourStates, S>, halves: &[Half])
-    requires halves { All (λ half. half.source < source_count (standing scope.old).net) halves.now }
+    requires halves { All (λ half. half.split.line.0 < source_count (standing scope.old).net) halves.now }
     requires unlinked { IsUnlinked (standing scope.old).rules }
     ensures scope { IsSameScope scope.old scope.new }
     ensures extends { ExtendsStanding (standing scope.old) (standing scope.new) }
 {
     for half in halves {
-        let _ = scope.assume(LineId(half.source), states_of(*half));
+        let _ = scope.assume(half.split.line, states_of(*half));
     }
 }
 

@@ -1,7 +1,7 @@
 // How a scope stands under any rules, stage by stage: at its beginning, under the pins of a path, under halves of splits, in a scope
 // within it under these, and when it has gone back. Only what the next call asks for is promised.
 ghost use Rattle.std.specs.Prelude.{◌≡◌, ◌<◌, None, All, IsSome, length};
-ghost use Rattle.netlist.specs.Circuit.{source_count};
+ghost use Rattle.netlist.specs.Circuit.{line_count};
 ghost use Rattle.netlist.specs.LinkedPairs.{FitRules};
 ghost use Rattle.netlist.specs.Paths.{IsPath};
 ghost use Rattle.implication.specs.Clients.{ExtendsStanding, IsRestored};
@@ -58,7 +58,7 @@ fn add_by_rules(
 ) -> Result<(), Trouble>
     requires path { IsPath net.now stages.now.path.now }
     requires fit { FitRules net.now stages.now.ruled.rules.now }
-    requires halves { All (λ half. half.source < source_count net.now) stages.now.halves.now }
+    requires halves { All (λ half. half.split.line.0 < line_count net.now) stages.now.halves.now }
 {
     let marks = vec![in alloc; true; net.lines() as usize]?;
     let marks = marks.as_slice();
@@ -78,7 +78,7 @@ fn add_stages<A: Algebra>(
 ) -> Result<(), Trouble>
     requires path { IsPath net.now stages.now.path.now }
     requires fit { FitRules net.now stages.now.ruled.rules.now }
-    requires halves { All (λ half. half.source < source_count net.now) stages.now.halves.now }
+    requires halves { All (λ half. half.split.line.0 < line_count net.now) stages.now.halves.now }
 {
     let rules = stages.ruled.rules;
     let mut engine = Engine::<A, RuledNetlist>::new(alloc, RuledNetlist { net, rules })?;
@@ -97,7 +97,7 @@ fn begin<A: Algebra, S: Setting>(
     requires idle { engine.old.beginning ≡ None }
     requires all { engine.old.ends ≡ None }
     requires path { IsPath engine.old.net stages.now.path.now }
-    requires halves { All (λ half. half.source < source_count engine.old.net) stages.now.halves.now }
+    requires halves { All (λ half. half.split.line.0 < line_count engine.old.net) stages.now.halves.now }
 {
     let Fault { direction, kind } = stages.ruled.fault;
     let mut scope = Scope::begin(engine, stages.path.source(), direction, kind);
@@ -113,7 +113,7 @@ fn begin<A: Algebra, S: Setting>(
 // The stages under halves, in the scope itself and in one within it.
 fn assume<A: Algebra, S: Setting>(scope: &mut Scope<A, S>, halves: &[Half], answer: &mut Text)
     requires all { (standing scope.old).ends ≡ None }
-    requires halves { All (λ half. half.source < source_count (standing scope.old).net) halves.now }
+    requires halves { All (λ half. half.split.line.0 < line_count (standing scope.old).net) halves.now }
     ensures scope { IsSameScope scope.old scope.new }
     ensures restored { IsRestored (standing scope.old) (standing scope.new) }
 {
@@ -133,13 +133,13 @@ fn assume<A: Algebra, S: Setting>(scope: &mut Scope<A, S>, halves: &[Half], answ
 #[tactic(auto, using(crate::proofs::Told::told_by_all))]
 fn assume_all<A: Algebra, S: Setting>(scope: &mut Scope<A, S>, halves: &[Half])
     requires all { (standing scope.old).ends ≡ None }
-    requires halves { All (λ half. half.source < source_count (standing scope.old).net) halves.now }
+    requires halves { All (λ half. half.split.line.0 < line_count (standing scope.old).net) halves.now }
     ensures scope { IsSameScope scope.old scope.new }
     ensures extends { ExtendsStanding (standing scope.old) (standing scope.new) }
 {
     for half in halves {
-        let states = half_states::<A>(half.steadiness, half.second);
-        let _ = scope.assume(LineId(half.source), states);
+        let states = half_states::<A>(half.split.kind, half.second);
+        let _ = scope.assume(half.split.line, states);
     }
 }
 

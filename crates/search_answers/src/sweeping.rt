@@ -6,7 +6,7 @@ ghost use Rattle.netlist.specs.Circuit.{gate_count, pins_at};
 use hulls::{NarrowScratch, narrow};
 use netlist::Netlist;
 use pd_base::{Direction, GateId, Kind, LineId, OutOfMemory, PinRef, Rules};
-use state_laws::Half;
+use state_laws::{Half, SplitKind};
 use state_sets::{Condition, FourStates, Labels, Narrowed, StateSet};
 use std::alloc::Global;
 
@@ -22,6 +22,11 @@ const MOVES: StateSet = StateSet(12);
 const ENDS_AT_0: StateSet = StateSet(5);
 
 const ENDS_AT_1: StateSet = StateSet(10);
+
+// What is not steady may have begun at either value.
+const BEGINS_AT_0: StateSet = StateSet(13);
+
+const BEGINS_AT_1: StateSet = StateSet(14);
 
 /// What is assumed: a transition at a source, the conditions of a kind of test at the steps of a prefix, and halves of splits.
 #[derive(Clone, Copy)]
@@ -71,7 +76,7 @@ fn started(
     };
     cut(&mut labels, assumed.source, launched);
     for half in assumed.halves {
-        cut(&mut labels, LineId(half.source), states_of(*half));
+        cut(&mut labels, half.split.line, states_of(*half));
     }
     Ok(labels)
 }
@@ -87,11 +92,13 @@ fn steady_others(net: &Netlist, launched: LineId, labels: &mut Labels<FourStates
 
 /// The states in a half.
 pub(crate) fn states_of(half: Half) -> StateSet {
-    match (half.steadiness, half.second) {
-        (false, false) => ENDS_AT_0,
-        (false, true) => ENDS_AT_1,
-        (true, false) => STEADY,
-        (true, true) => MOVES,
+    match (half.split.kind, half.second) {
+        (SplitKind::LastValue, false) => ENDS_AT_0,
+        (SplitKind::LastValue, true) => ENDS_AT_1,
+        (SplitKind::Steadiness, false) => STEADY,
+        (SplitKind::Steadiness, true) => MOVES,
+        (SplitKind::FirstValue, false) => BEGINS_AT_0,
+        (SplitKind::FirstValue, true) => BEGINS_AT_1,
     }
 }
 

@@ -27,11 +27,12 @@ returns-clause-some g c =
       source = record { in_support = c.requires.source; told = told };
       splits = record {
         at_source = refl;
+        kind = c.in_ok-kind.ensures.source_kind;
         in_half = λ labels is second.
-            let P : StateSet → Type 0 = λ set. HasInHalf g.A.Algebra.algebra set c.in_ok-steadiness.steadiness second in
+            let P : StateSet → Type 0 = λ set. HasInHalf g.A.Algebra.algebra set c.in_ok-kind.kind second in
             subst P (label_is g.A.Algebra.algebra (standing c.args.scope.now) (beginning_of (seen_target c.args.target.now)) c.requires.node.beginning
             c.args.source.0 c.label.result told (c.label.ensures.told c.requires.node.free) labels is)
-            (in_both g.A.Algebra.algebra c.label.result c.in_ok-steadiness.steadiness c.in_ok-steadiness.ensures.some second);
+            (in_both g.A.Algebra.algebra c.label.result c.in_ok-kind.kind c.in_ok-kind.ensures.some second);
       };
     }
 
@@ -41,8 +42,8 @@ returns-then-not-tells-clause-none g c = λ told. absurd (false≢true (sym c.if
 pub tells-requires : goal.tells-requires
 tells-requires g c = let within = c.requires.source.is_source in omega (arith, within)
 
-pub way_to_split-requires-clause-sources : goal.way_to_split-requires-clause-sources
-way_to_split-requires-clause-sources g c =
+pub kind_to_split-requires-clause-sources : goal.kind_to_split-requires-clause-sources
+kind_to_split-requires-clause-sources g c =
     label_of_sources g.A.Algebra.algebra (seen_target c.args.target.now) (standing c.args.scope.now) c.requires.node c.args.source.0
     (record { in_support = c.requires.source; told = c.tells.ensures.0 c.if-not-tells.false }) c.label.result
     (c.label.ensures.told c.requires.node.free)
@@ -50,11 +51,11 @@ way_to_split-requires-clause-sources g c =
 pub label-requires : goal.label-requires
 label-requires g c = let within = c.requires.source.is_source in omega (arith, within)
 
-pub returns-in_err-steadiness-clause-none : goal.returns-in_err-steadiness-clause-none
-returns-in_err-steadiness-clause-none g c =
+pub returns-in_err-kind-clause-none : goal.returns-in_err-kind-clause-none
+returns-in_err-kind-clause-none g c =
     if_none (IsTold (standing c.args.scope.now) c.args.source.0 → IsSingleAt g.A.Algebra.algebra (standing c.args.scope.now) c.args.source.0)
     c.from_residual.result (λ told labels is.
     subst (IsSingle g.A.Algebra.algebra.count)
     (label_is g.A.Algebra.algebra (standing c.args.scope.now) (beginning_of (seen_target c.args.target.now)) c.requires.node.beginning
     c.args.source.0 c.label.result told (c.label.ensures.told c.requires.node.free) labels is)
-    c.in_err-steadiness.ensures.none)
+    c.in_err-kind.ensures.none)

@@ -1,9 +1,10 @@
 -- Each source more stays within the trial; a conflict closes it, and where none came all are held.
-use Rattle.std.proofs.Common.{refl, ap, ◌∙◌, subst, take}
+use Rattle.std.proofs.Common.{◌<◌, ℕ, refl, ap, ◌∙◌, subst, take, arith}
 use Rattle.std.specs.Prelude.{is_some}
 use Rattle.std.specs.List.{All}
 use Rattle.std.proofs.lemmas.List.{take_all}
 use Rattle.std.proofs.lemmas.List.Elements.{All-nil}
+use Rattle.netlist.specs.Circuit.{Circuit, source_count, line_count}
 use Rattle.implication.specs.Scopes.{standing}
 use Rattle.implication.specs.Standing.{IsFree}
 use Rattle.implication.proofs.Restoring.{extends_itself, extends_trans, same_scope_twice}
@@ -85,9 +86,14 @@ loop-place-init g c =
       };
     }
 
-pub assume-requires-clause-source : goal.assume-requires-clause-source
-assume-requires-clause-source g c =
-    rw c.loop-place.invariant.extends.net (c.requires.tried c.loop-place.place _ c.loop-place-test.true).source.in_support.is_source
+-- a source is a line
+below_lines : (c : Circuit) (source : ℕ) → source < source_count c → source < line_count c
+below_lines c source is = omega (arith, is)
+
+pub assume-requires-clause-line : goal.assume-requires-clause-line
+assume-requires-clause-line g c =
+    let is = (c.requires.tried c.loop-place.place _ c.loop-place-test.true).source.in_support.is_source in
+    rw c.loop-place.invariant.extends.net (below_lines (standing c.args.scope.now).net _ is)
 
 pub assume-requires-clause-told : goal.assume-requires-clause-told
 assume-requires-clause-told g c =

@@ -9,7 +9,7 @@ abbrev pub invariant-loop-count : goal.invariant-loop-count
 invariant-loop-count g l = record {
   idle : l.engine.beginning ≡ None;
   source : l.assumed.source.0 < source_count l.engine.net;
-  halves : All (λ half. half.source < source_count l.engine.net) l.assumed.halves.now;
+  halves : All (λ half. half.split.line.0 < source_count l.engine.net) l.assumed.halves.now;
   told : AreMarkedTold l.engine l.marks;
   unlinked : IsUnlinked l.engine.rules;
 }

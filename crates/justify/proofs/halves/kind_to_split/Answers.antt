@@ -1,8 +1,8 @@
--- A way that is found leaves each half a state; where neither way does, the set has less than two states.
+-- A kind that is found leaves each half a state; where neither does, the set has less than two states.
 use Rattle.std.proofs.Common.{◌∙◌, sym}
 use Rattle.std.proofs.lemmas.Bool.{false≢true}
 use Rattle.justify.proofs.HalfStates.{no_split_is_single}
-use Rattle.justify.proofs.halves.way_to_split.Goals as goal
+use Rattle.justify.proofs.halves.kind_to_split.Goals as goal
 
 pub returns-else-by_steadiness-clause-none : goal.returns-else-by_steadiness-clause-none
 returns-else-by_steadiness-clause-none g c =
