@@ -6,7 +6,6 @@ use Rattle.std.specs.Prelude.{◌↔◌}
 use Rattle.pd_base.specs.Memory.{out_of_memory}
 use Rattle.pd_io.specs.Folder.{Folder}
 use Rattle.pd_io.specs.Seen.{Outside}
-use Rattle.run_files.specs.ProofsText.{version_of}
 use Rattle.command_line.specs.Modes.{RunMode, enhanced, broadside, skewed}
 use Rattle.command_line.specs.Words.{RunCall, asked_call, check}
 use Rattle.calls.specs.declared.cause.Cause.TheVariants as cause
@@ -111,7 +110,7 @@ module _ (call : RunCall) (told : Folder) (texts : RunTexts) where
             (
               accepts_report call texts c has launch launched it.run.paths spells.report_is,
               (
-                accepts_proofs call texts c has launch launched (version_of it.run.rules) it.run.proofs spells.proofs_are,
+                accepts_proofs call texts c has launch launched spells.proofs_are.version it.run.proofs spells.proofs_are.spells,
                 (
                   accepts_version call texts c has launch launched it.run.rules spells.of_mode it.run.proofs spells.proofs_are,
                   (accepts_good call texts c has launch launched it.delays it.spell.has_delays it.run spells it.good, refl),

@@ -8,7 +8,6 @@ use Rattle.delay_annotation.specs.DelayFile.{HasDelays}
 use Rattle.runs.specs.declared.run.Run.{Run}
 use Rattle.good_runs.specs.GoodRun.{IsGoodRun}
 use Rattle.pd_base.specs.declared.limits.TheConstants.{MOST_BYTES}
-use Rattle.run_files.specs.ProofsText.{version_of}
 use Rattle.command_line.specs.Words.{RunCall}
 use Rattle.calls.specs.declared.role.Role.TheVariants as role
 use Rattle.calls.specs.Calls.{HasAcceptedInputs}
@@ -85,7 +84,7 @@ module _ (call : RunCall) (told : Folder) where
                       (
                         accepts_report call (texts_in call told) c has launch has_launch run.paths spells.report_is,
                         (
-                          accepts_proofs call (texts_in call told) c has launch has_launch (version_of run.rules) run.proofs spells.proofs_are,
+                          accepts_proofs call (texts_in call told) c has launch has_launch spells.proofs_are.version run.proofs spells.proofs_are.spells,
                           (
                             accepts_version call (texts_in call told) c has launch has_launch run.rules spells.of_mode run.proofs spells.proofs_are,
                             (accepts_good call (texts_in call told) c has launch has_launch given gives run spells good, refl),

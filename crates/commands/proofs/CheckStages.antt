@@ -5,7 +5,7 @@ use Rattle.std.specs.declared.alloc.Global.{Global}
 use Rattle.pd_base.specs.declared.rules.Rules.{Rules}
 use Rattle.pd_base.specs.declared.test.Test.{Test}
 use Rattle.pd_io.specs.Seen.{FilesSeen}
-use Rattle.netlist.specs.Circuit.{Circuit, source_count}
+use Rattle.netlist.specs.Circuit.{Circuit, line_count}
 use Rattle.netlist.specs.Waves.{Delays}
 use Rattle.bench_reader.specs.Circuits.{HasCircuit}
 use Rattle.bench_reader.proofs.Answering.{one_circuit}
@@ -19,7 +19,7 @@ use Rattle.good_runs.specs.GoodRun.{IsGoodRun}
 use Rattle.claim_check.specs.Claims.{TellsOfRun}
 use Rattle.claim_check.specs.declared.claim.Claim.TheVariants.{Holds, Fails}
 use Rattle.claim_check.proofs.Agreeing.{claims_agree}
-use Rattle.run_files.specs.ProofsText.{version_number, version_of}
+use Rattle.run_files.specs.ProofsVersions.{at_sources}
 use Rattle.run_files.specs.declared.version.ProofsVersion.{ProofsVersion}
 use Rattle.run_files.proofs.ProofFiles.{proofs_once}
 use Rattle.command_line.specs.Modes.{RunMode, enhanced, broadside, skewed}
@@ -43,7 +43,7 @@ use Rattle.commands.proofs.FrontStages.{judged_behind, more_whole_behind, requir
 use Rattle.commands.specs.Check.{CheckRequirement, GoodRun, VersionOfMode, SpellFlawedRun, SpellAll, SpellGoodRun, SpellOtherVersion, check_command, check_stages, check_work, claim_reads, form_stages, good_products, stages_read}
 use Rattle.commands.specs.Inside.Checking.{FailsRules, FailsRun, FailsToSpell, HasNoRules, HasSpelledRun, IsFlawed, IsGoodAndKeeps, SpellsNumbered, all_inputs, no_tests, no_report, no_proofs, no_rules, stages_formed, stages_short}
 use Rattle.commands.specs.ModeRules.{AreRulesOf}
-use Rattle.commands.specs.SpelledRuns.{HasOtherVersion, IsMalformedProofs, IsMalformedReport, SpellsProofs, SpellsReport, SpellsRun}
+use Rattle.commands.specs.SpelledRuns.{HasOtherVersion, IsMalformedProofs, IsMalformedReport, SpellsProofs, SpellsProofsOf, SpellsReport, SpellsRun}
 use Rattle.commands.specs.declared.check.reading.ClaimTexts.{ClaimTexts}
 use Rattle.commands.specs.declared.launch.Launch.{Launch}
 use Rattle.commands.proofs.AgreeingDelays.{good_agrees}
@@ -191,16 +191,17 @@ module _ (call : RunCall) where
           (proofs_formed texts.net c has texts.proofs version listed spells))
 
       -- proofs in the version of rules of the launch are in none that no rules of it have
-      has_version : (rules : Rules) → AreRulesOf launch c rules → (listed : List Proof) → SpellsProofs c texts.proofs (version_of rules) listed
+      has_version : (rules : Rules) → AreRulesOf launch c rules → (listed : List Proof) → SpellsProofsOf c texts.proofs rules listed
           → ¬ HasOtherVersion launch c texts.proofs
       has_version rules of_mode listed spells it =
-          let few : source_count c < 2 ^ 64 = omega (arith, (is_circuit texts.net c has).few_lines) in
-          it.none_has rules of_mode
-          (proofs_once c few it.version (version_of rules) it.proofs listed it.spells.lawful spells.lawful
-          (sym it.spells.is_text ∙ spells.is_text)).0
+          let few : line_count c < 2 ^ 64 = omega (arith, (is_circuit texts.net c has).few_lines) in
+          let same =
+          proofs_once c few it.version spells.version it.proofs listed it.spells.lawful spells.spells.lawful
+          (sym it.spells.is_text ∙ spells.spells.is_text) in
+          it.none_has rules of_mode (ap at_sources same.0 ∙ spells.of_rules)
 
       -- nor in one that another launch of the mode would tell
-      no_other : (rules : Rules) → AreRulesOf launch c rules → (listed : List Proof) → SpellsProofs c texts.proofs (version_of rules) listed
+      no_other : (rules : Rules) → AreRulesOf launch c rules → (listed : List Proof) → SpellsProofsOf c texts.proofs rules listed
           → (d : Circuit) (other : Launch) → d ≡ c → HasLaunch call.mode d texts.scans other → ¬ HasOtherVersion other d texts.proofs
       no_other rules of_mode listed spells d other same launched it =
           let launched_here = subst (λ (e : Circuit). HasLaunch call.mode e texts.scans other) same launched in
@@ -210,7 +211,7 @@ module _ (call : RunCall) where
           (launch_once c (is_circuit texts.net c has) call.mode texts.scans other launch launched_here has_launch) it_here)
 
       pub accepts_version : (rules : Rules) → AreRulesOf launch c rules → (listed : List Proof)
-          → SpellsProofs c texts.proofs (version_of rules) listed → Accepts (check_work call) (own VersionOfMode) inputs
+          → SpellsProofsOf c texts.proofs rules listed → Accepts (check_work call) (own VersionOfMode) inputs
       accepts_version rules of_mode listed spells refusal refuses =
           let it = (subst (λ (t : RunTexts). SpellOtherVersion call.mode t refusal) found refuses).other in
           no_other rules of_mode listed spells it.circuit it.launch (one_circuit texts.net it.circuit c it.has has) it.has_launch it.other
@@ -244,7 +245,7 @@ module _ (call : RunCall) where
         all_formed run spells =
             required_behind (check_command call) front (up_to_forms ++ form_of_tests ∷ form_of_report ∷ form_of_proofs ∷ [])
             (own VersionOfMode)
-            (proofs_passed run.tests run.paths (version_of run.rules) run.proofs spells.tests_are spells.report_is spells.proofs_are)
+            (proofs_passed run.tests run.paths spells.proofs_are.version run.proofs spells.tests_are spells.report_is spells.proofs_are.spells)
             (accepts_version run.rules spells.of_mode run.proofs spells.proofs_are)
 
         -- one has not
@@ -308,7 +309,7 @@ module _ (call : RunCall) where
                   version = theirs.version;
                   proofs = of_them;
                   spells = theirs.spells;
-                  none_has = λ rules of_mode same. why.none_has rules of_mode (ap version_number (sym same) ∙ sym theirs.is_number);
+                  none_has = λ rules of_mode. why.none_has rules of_mode theirs.version (sym theirs.is_number);
                 };
               };
               is = why.is;

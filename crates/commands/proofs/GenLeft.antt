@@ -12,7 +12,8 @@ use Rattle.good_runs.specs.GoodRun.{IsGoodRun}
 use Rattle.bench_reader.specs.Circuits.{HasCircuit}
 use Rattle.delay_annotation.specs.DelayFile.{HasDelays}
 use Rattle.run_files.specs.TestsText.{tests_text}
-use Rattle.run_files.specs.ProofsText.{proofs_text, version_of}
+use Rattle.run_files.specs.ProofsText.{proofs_text}
+use Rattle.run_files.specs.ProofsVersions.{version_of}
 use Rattle.run_files.specs.ReportText.{report_text}
 use Rattle.command_line.specs.Modes.{RunMode, enhanced, broadside, skewed}
 use Rattle.command_line.specs.Words.{RunCall}
@@ -63,7 +64,7 @@ pub record LeftFiles (call : RunCall) (left : Folder) : Type 0 where
   pub delays_is : bytes_at left.held call.delays ≡ delay_file
   pub tests_is : bytes_at left.held call.tests ≡ tests_text circuit run.tests
   pub report_is : bytes_at left.held call.report ≡ report_text circuit run.paths
-  pub proofs_is : bytes_at left.held call.proofs ≡ proofs_text (version_of run.rules) run.proofs
+  pub proofs_is : bytes_at left.held call.proofs ≡ proofs_text (version_of circuit run.rules run.proofs) run.proofs
 
 module _ (call : RunCall) (apart : HasNamesApart call) where
   -- gen wrote its products over what was held before
@@ -80,7 +81,7 @@ module _ (call : RunCall) (apart : HasNamesApart call) where
       let c = gives.circuit in
       let tests = tests_text c given.run.tests in
       let report = report_text c given.run.paths in
-      let proofs = proofs_text (version_of given.run.rules) given.run.proofs in
+      let proofs = proofs_text (version_of c given.run.rules given.run.proofs) given.run.proofs in
       let held : left.held ≡ put_all before.held (run_files call c given.run) =
       ap (λ (f : Folder). f.held) wrote ∙ ap (λ (p : Products). put_all before.held p.files) given.texts in
       let scans : scans_in call left ≡ scans_in call before =

@@ -8,7 +8,8 @@ use Rattle.bench_reader.proofs.LawfulCircuits.{is_circuit}
 use Rattle.delay_annotation.specs.DelayFile.{HasDelays}
 use Rattle.pd_base.specs.declared.limits.TheConstants.{MOST_BYTES}
 use Rattle.run_files.specs.TestsText.{tests_text}
-use Rattle.run_files.specs.ProofsText.{proofs_text, version_of}
+use Rattle.run_files.specs.ProofsText.{proofs_text}
+use Rattle.run_files.specs.ProofsVersions.{version_of}
 use Rattle.run_files.specs.ReportText.{report_text}
 use Rattle.command_line.specs.Modes.{RunMode, enhanced, broadside, skewed}
 use Rattle.command_line.specs.Words.{HasRunNumbers, RunCall, asked_call, check}
@@ -39,7 +40,7 @@ module _ (call : RunCall) (numbers : HasRunNumbers call) (left later : Folder) (
   report_is : bytes_at later.held call.report ≡ report_text it.circuit it.run.paths
   report_is = kept 3 [] (omega arith) ∙ it.report_is
 
-  proofs_are : bytes_at later.held call.proofs ≡ proofs_text (version_of it.run.rules) it.run.proofs
+  proofs_are : bytes_at later.held call.proofs ≡ proofs_text (version_of it.circuit it.run.rules it.run.proofs) it.run.proofs
   proofs_are = kept 4 [] (omega arith) ∙ it.proofs_is
 
   -- the scan file, too, if the mode reads one
@@ -74,7 +75,11 @@ module _ (call : RunCall) (numbers : HasRunNumbers call) (left later : Folder) (
         tests_are = record { lawful = spells.tests_are.lawful; is_text = tests_are };
         report_is = record { lawful = spells.report_is.lawful; is_text = report_is };
         of_mode = it.of_mode;
-        proofs_are = record { lawful = spells.proofs_are.lawful; is_text = proofs_are };
+        proofs_are = record {
+          version = spells.proofs_are.version;
+          of_rules = spells.proofs_are.of_rules;
+          spells = record { lawful = spells.proofs_are.spells.lawful; is_text = proofs_are ∙ spells.proofs_are.spells.is_text };
+        };
       }
 
   accepted : HasAcceptedInputs (check_work call) (Some later)

@@ -22,7 +22,10 @@ use Rattle.good_runs.specs.GoodRun.{IsGoodRefutation, IsGoodRun, IsGoodSpent}
 use Rattle.good_runs.proofs.FirstOnce.{few_first}
 use Rattle.run_files.specs.TestsText.{tests_text}
 use Rattle.run_files.specs.ProofsReading.{AreSpelledProofs}
-use Rattle.run_files.specs.ProofsText.{proofs_text, version_of}
+use Rattle.run_files.specs.declared.version.ProofsVersion.{ProofsVersion}
+use Rattle.run_files.specs.ProofsText.{proofs_text}
+use Rattle.run_files.specs.ProofsVersions.{version_of}
+use Rattle.run_files.proofs.Versions.{lawful_is_spelled, written_is_of}
 use Rattle.run_files.specs.ReportForm.{IsSpelledReport}
 use Rattle.run_files.specs.ReportText.{report_text}
 use Rattle.command_line.specs.Words.{HasRunNumbers, RunCall}
@@ -40,7 +43,7 @@ use Rattle.commands.proofs.TestsBound.{tests_within}
 pub record CanBeRead (c : Circuit) (run : Run) : Type 0 where
   pub tests : length (tests_text c run.tests) ≤ MOST_BYTES
   pub report : length (report_text c run.paths) ≤ MOST_BYTES
-  pub proofs : length (proofs_text (version_of run.rules) run.proofs) ≤ MOST_BYTES
+  pub proofs : length (proofs_text (version_of c run.rules run.proofs) run.proofs) ≤ MOST_BYTES
 
 module _ (c : Circuit) (circuit : IsCircuit c) (call : RunCall) (numbers : HasRunNumbers call) (delay_file : List ℕ) (delays : Delays)
     (has : HasDelays c delay_file delays) (run : Run) (good : IsGoodRun c delays call.paths call.budget run) (lawful : IsLawfulRun c run) where
@@ -108,24 +111,32 @@ module _ (c : Circuit) (circuit : IsCircuit c) (call : RunCall) (numbers : HasRu
   tree_at : (place : ℕ) (d : Proof) → place < length run.proofs → HasShortTree (get_or run.proofs place d)
   tree_at place d within = has_short_tree (get_or run.proofs place d) (good.refutations place d within) (good.spent place d within)
 
-  spelled_proofs : AreSpelledProofs c run.proofs
-  spelled_proofs = record { lawful = lawful.proofs; whole = λ place d within. (tree_at place d within).whole }
+  -- the version in which the proofs are written
+  abbrev version : ProofsVersion
+  version = version_of c run.rules run.proofs
 
-  short_proofs : All (IsShortProof c circuit call.budget) run.proofs
+  spelled_proofs : AreSpelledProofs c version run.proofs
+  spelled_proofs = lawful_is_spelled c run.rules run.proofs lawful.proofs (λ place d within. (tree_at place d within).whole)
+
+  short_proofs : All (IsShortProof c circuit version call.budget) run.proofs
   short_proofs place d within = record {
     lawful = lawful.proofs.lawful place d within;
-    on_sources = lawful.proofs.on_sources place d within;
+    nodes = spelled_proofs.nodes place d within;
     whole = (tree_at place d within).whole;
     few_splits = (tree_at place d within).few_splits;
   }
 
   pub spelled_run : (launch : Launch) → AreRulesOf launch c run.rules
-      → SpellsRun launch c (tests_text c run.tests) (report_text c run.paths) (proofs_text (version_of run.rules) run.proofs) run
+      → SpellsRun launch c (tests_text c run.tests) (report_text c run.paths) (proofs_text version run.proofs) run
   spelled_run launch of_mode = record {
     tests_are = record { lawful = lawful.tests; is_text = refl };
     report_is = record { lawful = spelled_report; is_text = refl };
     of_mode = of_mode;
-    proofs_are = record { lawful = spelled_proofs; is_text = refl };
+    proofs_are = record {
+      version = version;
+      of_rules = written_is_of c run.rules run.proofs;
+      spells = record { lawful = spelled_proofs; is_text = refl };
+    };
   }
 
   pub readable_texts : HasShortTexts call.paths c → CanBeRead c run
@@ -134,6 +145,6 @@ module _ (c : Circuit) (circuit : IsCircuit c) (call : RunCall) (numbers : HasRu
         (omega (arith, good.tests_cited, two_tests_each run.paths, few_listed));
     report = report_within c circuit call.paths run.paths numbers.few_paths short.path_text spelled_report
         (All-from_recursion (λ (listed : ListedPath). length listed.path.steps ≤ greatest_level c) run.paths (few_steps run.paths paths_of)) few_listed;
-    proofs = proofs_within c circuit call.budget call.paths (version_of run.rules) run.proofs numbers.few_paths numbers.product short_proofs
+    proofs = proofs_within c circuit version call.budget call.paths run.proofs numbers.few_paths numbers.product short_proofs
         (omega (arith, good.proofs_cited, four_proofs_each run.paths lawful.report.numbered, few_listed));
   }

@@ -1,5 +1,5 @@
 -- The rules of a launch: at most one of them has a version, and a good run under them keeps the mode.
-use Rattle.std.proofs.Common.{◌≡◌, ◌≢◌, ℕ, Option, None, Some, true, refl, sym, ap, subst, ◌∙◌}
+use Rattle.std.proofs.Common.{◌≡◌, ◌≢◌, ℕ, Option, None, Some, true, refl, sym, subst, ◌∙◌}
 use Rattle.pd_base.specs.Links.{LinkList}
 use Rattle.pd_base.specs.Pair.{Vectors}
 use Rattle.pd_base.specs.Route.{Route}
@@ -19,9 +19,9 @@ use Rattle.trees.specs.Unlinked.{IsUnlinked}
 use Rattle.trees.proofs.Unlinked.{every_pair_is_of_rules, no_links}
 use Rattle.good_runs.specs.GoodRun.{IsGoodRun}
 use Rattle.good_runs.specs.Promises.{AllKeepPromises, ExcludesPairs, VerdictTells}
-use Rattle.run_files.specs.ProofsText.{version_number, version_of}
+use Rattle.run_files.specs.ProofsVersions.{rules_version, version_number, IsVersionOf}
 use Rattle.run_files.specs.declared.version.ProofsVersion.{ProofsVersion}
-use Rattle.run_files.specs.declared.version.ProofsVersion.TheVariants.{First, Second, Third}
+use Rattle.run_files.specs.declared.version.ProofsVersion.TheVariants.{First, Second, Third, Fourth, Fifth}
 use Rattle.commands.specs.ModeRules.{AreRulesOf, AreRulesWith, IsOfMode, KeepsAny, KeepsMode, launch_links, rules_with, searched_rules}
 use Rattle.commands.specs.declared.launch.Launch.{Launch}
 
@@ -33,31 +33,35 @@ searched_with (Some links) rules is = is
 pub searched_are : (launch : Launch) (c : Circuit) (rules : Rules) → rules ≡ searched_rules launch c → AreRulesOf launch c rules
 searched_are launch c rules is = searched_with (launch_links launch c) rules is
 
--- a number is that of one version
-pub version_by_number : (version other : ProofsVersion) → version_number version ≡ version_number other → version ≡ other
-version_by_number First First same = refl
-version_by_number Second Second same = refl
-version_by_number Third Third same = refl
-version_by_number First Second same = absurd cc
-version_by_number First Third same = absurd cc
-version_by_number Second First same = absurd cc
-version_by_number Second Third same = absurd cc
-version_by_number Third First same = absurd cc
-version_by_number Third Second same = absurd cc
-
 -- the numbers that are those of no rules
-pub none_unlinked : (number : ℕ) → number ≢ 1 → number ≢ 2 → (rules : Rules) → AreRulesWith None rules
-    → version_number (version_of rules) ≢ number
-none_unlinked number no_first no_second One of same = no_first (sym same)
-none_unlinked number no_first no_second Two of same = no_second (sym same)
-none_unlinked number no_first no_second (Linked links) of same = absurd of
+pub none_unlinked : (number : ℕ) → number ≢ 1 → number ≢ 2 → number ≢ 4 → (rules : Rules) → AreRulesWith None rules
+    → (version : ProofsVersion) → version_number version ≡ number → ¬ IsVersionOf rules version
+none_unlinked number no_first no_second no_fourth (Linked links) of version same = absurd of
+none_unlinked number no_first no_second no_fourth One of First same = absurd (no_first (sym same))
+none_unlinked number no_first no_second no_fourth One of Second same = λ is. cc
+none_unlinked number no_first no_second no_fourth One of Third same = λ is. cc
+none_unlinked number no_first no_second no_fourth One of Fourth same = λ is. cc
+none_unlinked number no_first no_second no_fourth One of Fifth same = λ is. cc
+none_unlinked number no_first no_second no_fourth Two of First same = λ is. cc
+none_unlinked number no_first no_second no_fourth Two of Second same = absurd (no_second (sym same))
+none_unlinked number no_first no_second no_fourth Two of Third same = λ is. cc
+none_unlinked number no_first no_second no_fourth Two of Fourth same = absurd (no_fourth (sym same))
+none_unlinked number no_first no_second no_fourth Two of Fifth same = λ is. cc
 
-pub none_linked : (links : LinkList) (number : ℕ) → number ≢ 3 → (rules : Rules) → AreRulesWith (Some links) rules
-    → version_number (version_of rules) ≢ number
-none_linked links number no_third rules of same = no_third (sym same ∙ ap (λ (r : Rules). version_number (version_of r)) of)
+pub none_linked : (links : LinkList) (number : ℕ) → number ≢ 3 → number ≢ 5 → (rules : Rules) → AreRulesWith (Some links) rules
+    → (version : ProofsVersion) → version_number version ≡ number → ¬ IsVersionOf rules version
+none_linked links number no_third no_fifth rules of version same =
+    subst (λ (r : Rules). ¬ IsVersionOf r version) (sym of) (by version same)
+  where
+    by : (version : ProofsVersion) → version_number version ≡ number → ¬ IsVersionOf (Linked (record { pairs = links })) version
+    by First same = λ is. cc
+    by Second same = λ is. cc
+    by Third same = absurd (no_third (sym same))
+    by Fourth same = λ is. cc
+    by Fifth same = absurd (no_fifth (sym same))
 
 -- rules without links that have one version are the same
-unlinked_once : (rules other : Rules) → IsUnlinked rules → IsUnlinked other → version_of rules ≡ version_of other → rules ≡ other
+unlinked_once : (rules other : Rules) → IsUnlinked rules → IsUnlinked other → rules_version rules ≡ rules_version other → rules ≡ other
 unlinked_once One One is its same = refl
 unlinked_once Two Two is its same = refl
 unlinked_once One Two is its same = absurd cc
@@ -68,12 +72,12 @@ unlinked_once Two (Linked links) is its same = absurd its
 
 -- rules of a launch that have one version are the same
 once_with : (links : Option LinkList) (rules other : Rules) → AreRulesWith links rules → AreRulesWith links other
-    → version_of rules ≡ version_of other → rules ≡ other
+    → rules_version rules ≡ rules_version other → rules ≡ other
 once_with None rules other is its same = unlinked_once rules other is its same
 once_with (Some links) rules other is its same = is ∙ sym its
 
 pub rules_once : (launch : Launch) (c : Circuit) (rules other : Rules) → AreRulesOf launch c rules → AreRulesOf launch c other
-    → version_of rules ≡ version_of other → rules ≡ other
+    → rules_version rules ≡ rules_version other → rules ≡ other
 rules_once launch c rules other is its same = once_with (launch_links launch c) rules other is its same
 
 module _ (c : Circuit) (rules : Rules) where

@@ -1,24 +1,27 @@
 -- How long a proofs file of a call is at most.
-use Rattle.std.proofs.Common.{◌≡◌, ◌≤◌, ◌<◌, ◌+◌, ◌*◌, ℕ, Bool, true, false, cond, List, [], ◌∷◌, length, map, codes, decimal, length-append, refl, sym, ap, ◌∙◌, arith, All}
+use Rattle.std.proofs.Common.{◌≡◌, ◌≤◌, ◌<◌, ◌+◌, ◌*◌, ℕ, Bool, true, false, cond, List, [], ◌∷◌, length, map, decimal, length-append, refl, sym, ap, ◌∙◌, arith, All}
 use Rattle.std.specs.List.{AllByRecursion}
 use Rattle.std.proofs.lemmas.Fmt.{length-decimal-le}
 use Rattle.std.proofs.lemmas.List.Elements.{recursion_from_All}
 use Rattle.std.proofs.lemmas.List.Sums.{sum_by-cons}
 use Rattle.std.proofs.lemmas.Nat.{mul-le}
 use Rattle.pd_base.specs.declared.limits.TheConstants.{MOST_BYTES, MOST_PATHS}
-use Rattle.netlist.specs.Circuit.{Circuit, source_count}
+use Rattle.netlist.specs.Circuit.{Circuit, line_count}
 use Rattle.netlist.specs.Lawful.{IsCircuit}
 use Rattle.runs.specs.declared.run.Proof.{Proof}
+use Rattle.state_laws.specs.declared.split.SplitKind.{SplitKind}
+use Rattle.state_laws.specs.declared.split.SplitKind.TheVariants.{LastValue, Steadiness, FirstValue}
 use Rattle.trees.specs.declared.tree.Node.{Node}
-use Rattle.trees.specs.declared.tree.Node.TheVariants.{Closed, Waiting, Value, Steadiness}
-use Rattle.runs.specs.Lawful.{IsLawfulProof, IsOnSource}
+use Rattle.trees.specs.declared.tree.Node.TheVariants.{Closed, Waiting, Split}
+use Rattle.runs.specs.Lawful.{IsLawfulProof}
 use Rattle.trees.specs.Trees.{is_split, split_count, IsTree}
 use Rattle.trees.proofs.Ending.{nodes_and_splits}
 use Rattle.text_pieces.specs.Tokens.{direction_word, kind_word, line, space}
 use Rattle.text_pieces.specs.LineFiles.{lines_text}
-use Rattle.run_files.specs.ProofsText.{claim_word, node_text, proof_text, proofs_form, proofs_text, version_line}
+use Rattle.run_files.specs.ProofsText.{claim_word, node_text, proof_text, proofs_form, proofs_text, kind_letter}
+use Rattle.run_files.specs.ProofsVersions.{lines_to_split, version_line, IsNodeIn}
 use Rattle.run_files.specs.declared.version.ProofsVersion.{ProofsVersion}
-use Rattle.run_files.specs.declared.version.ProofsVersion.TheVariants.{First, Second, Third}
+use Rattle.run_files.specs.declared.version.ProofsVersion.TheVariants.{First, Second, Third, Fourth, Fifth}
 use Rattle.command_line.specs.declared.forms.run.TheConstants.{MOST_PRODUCT}
 use Rattle.commands.proofs.TextBounds.{bytes_of, direction_length, joined_length, kind_within, line_length, lines_within}
 
@@ -34,29 +37,50 @@ version_length : (version : ProofsVersion) → length (version_line version) ≡
 version_length First = refl
 version_length Second = refl
 version_length Third = refl
+version_length Fourth = refl
+version_length Fifth = refl
+
+letter_length : (kind : SplitKind) → length (kind_letter kind) ≡ 1
+letter_length LastValue = refl
+letter_length Steadiness = refl
+letter_length FirstValue = refl
 
 -- a list of nodes has so many splits as that behind the first, and one more where this is one
 splits_first : (node : Node) (nodes : List Node) → split_count (node ∷ nodes) ≡ cond (is_split node) 1 0 + split_count nodes
 splits_first node nodes = sum_by-cons (λ n. cond (is_split n) 1 0) node nodes
 
-module _ (c : Circuit) (circuit : IsCircuit c) where
-  source_digits : (source : ℕ) → source < source_count c → length (decimal source) ≤ 6
-  source_digits source within =
+-- lines at which trees of a version may split are those of the circuit
+split_line_within : (c : Circuit) (version : ProofsVersion) (line : ℕ) → line < lines_to_split c version → line < line_count c
+split_line_within c First line within = omega arith
+split_line_within c Second line within = omega arith
+split_line_within c Third line within = omega arith
+split_line_within c Fourth line within = within
+split_line_within c Fifth line within = within
+
+module _ (c : Circuit) (circuit : IsCircuit c) (version : ProofsVersion) where
+  line_digits : (line : ℕ) → line < lines_to_split c version → length (decimal line) ≤ 6
+  line_digits line within =
       let lines = circuit.few_lines in
-      length-decimal-le 6 source (omega arith) (omega arith) (omega arith)
+      let in_circuit = split_line_within c version line within in
+      length-decimal-le 6 line (omega arith) (omega arith) (omega arith)
 
   -- two bytes for each node, and six more for each split
-  nodes_within : (nodes : List Node) → AllByRecursion (IsOnSource c) nodes → bytes_of (map node_text nodes) ≤ 2 * length nodes + 6 * split_count nodes
+  nodes_within : (nodes : List Node) → AllByRecursion (IsNodeIn c version) nodes → bytes_of (map node_text nodes) ≤ 2 * length nodes + 6 * split_count nodes
   nodes_within [] on = omega arith
   nodes_within (Closed ∷ nodes) on = omega (arith, splits_first Closed nodes, nodes_within nodes on.1)
   nodes_within (Waiting ∷ nodes) on = omega (arith, splits_first Waiting nodes, nodes_within nodes on.1)
-  nodes_within (Value source ∷ nodes) on =
-      omega (arith, splits_first (Value source) nodes, nodes_within nodes on.1, length-append (codes "V") (decimal source), source_digits source on.0)
-  nodes_within (Steadiness source ∷ nodes) on =
-      omega (arith, splits_first (Steadiness source) nodes, nodes_within nodes on.1, length-append (codes "H") (decimal source), source_digits source on.0)
+  nodes_within (Split split ∷ nodes) on =
+      omega (
+        arith,
+        splits_first (Split split) nodes,
+        nodes_within nodes on.1,
+        length-append (kind_letter split.kind) (decimal split.line.0),
+        letter_length split.kind,
+        line_digits split.line.0 on.0.line,
+      )
 
   -- ten bytes for each split, and two for the leaf that there is one more
-  tree_within : (nodes : List Node) → IsTree nodes → AllByRecursion (IsOnSource c) nodes → bytes_of (map node_text nodes) ≤ 10 * split_count nodes + 2
+  tree_within : (nodes : List Node) → IsTree nodes → AllByRecursion (IsNodeIn c version) nodes → bytes_of (map node_text nodes) ≤ 10 * split_count nodes + 2
   tree_within nodes tree on =
       let count : length nodes ≡ 2 * split_count nodes + 1 =
       ap length tree.1 ∙ nodes_and_splits tree.0 ∙ ap (λ (ns : List Node). 2 * split_count ns + 1) (sym tree.1) in
@@ -66,7 +90,7 @@ module _ (c : Circuit) (circuit : IsCircuit c) where
     -- a proof that a proofs file may list, whose tree has no more splits than the budget
     pub record IsShortProof (proof : Proof) : Type 0 where
       pub lawful : IsLawfulProof proof
-      pub on_sources : All (IsOnSource c) proof.tree
+      pub nodes : All (IsNodeIn c version) proof.tree
       pub whole : IsTree proof.tree
       pub few_splits : split_count proof.tree ≤ budget
 
@@ -88,7 +112,7 @@ module _ (c : Circuit) (circuit : IsCircuit c) where
           direction_length proof.dir,
           path,
           steps,
-          tree_within proof.tree is.whole (recursion_from_All (IsOnSource c) proof.tree is.on_sources),
+          tree_within proof.tree is.whole (recursion_from_All (IsNodeIn c version) proof.tree is.nodes),
           splits,
         )
 
@@ -106,9 +130,9 @@ module _ (c : Circuit) (circuit : IsCircuit c) where
         )
 
     -- the proofs of so many paths, four for each, where the product of paths and budget is within its limit
-    pub proofs_within : (paths : ℕ) (version : ProofsVersion) (proofs : List Proof) → paths ≤ MOST_PATHS → paths * budget ≤ MOST_PRODUCT
+    pub proofs_within : (paths : ℕ) (proofs : List Proof) → paths ≤ MOST_PATHS → paths * budget ≤ MOST_PRODUCT
         → All IsShortProof proofs → length proofs ≤ 4 * paths → length (proofs_text version proofs) ≤ MOST_BYTES
-    proofs_within paths version proofs few product each four_each =
+    proofs_within paths proofs few product each four_each =
         let lines = lines_within (proofs_form IsLawfulProof) (10 * budget + 50) AreFewProofs next_proof 1 proofs
         (record { few = omega arith; each = recursion_from_All IsShortProof proofs each }) in
         let all : length proofs * (10 * budget + 50) ≤ 4 * paths * (10 * budget + 50) =

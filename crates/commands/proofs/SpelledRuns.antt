@@ -1,5 +1,5 @@
 -- What is read of three texts is the run that they spell, or a line is malformed; and they spell one run at most.
-use Rattle.std.proofs.Common.{◌≡◌, ℕ, List, None, Some, Result, Ok, Err, subst, sym, ◌∙◌}
+use Rattle.std.proofs.Common.{◌≡◌, ℕ, List, None, Some, Result, Ok, Err, subst, ◌∙◌}
 use Rattle.std.specs.Global.{Vec}
 use Rattle.netlist.specs.Circuit.{Circuit}
 use Rattle.pd_base.specs.declared.rules.Rules.{Rules}
@@ -9,7 +9,7 @@ use Rattle.runs.specs.declared.run.Proof.{Proof}
 use Rattle.runs.specs.declared.run.Run.{Run}
 use Rattle.text_pieces.specs.Reads.{Reads}
 use Rattle.run_files.specs.ProofsReading.{ProofsAnswer}
-use Rattle.run_files.specs.ProofsText.{version_number, version_of}
+use Rattle.run_files.specs.ProofsVersions.{version_number, IsVersionOf}
 use Rattle.run_files.specs.ReportForm.{IsSpelledReport}
 use Rattle.run_files.specs.ReportReading.{ReportAnswer}
 use Rattle.run_files.specs.ReportText.{report_text}
@@ -17,9 +17,9 @@ use Rattle.run_files.specs.declared.fault.TextFault.{TextFault}
 use Rattle.run_files.specs.declared.fault.TextFault.TheVariants.{Malformed}
 use Rattle.run_files.specs.declared.version.ProofsVersion.{ProofsVersion}
 use Rattle.commands.specs.Inside.Checking.{SpellsNumbered}
-use Rattle.commands.specs.SpelledRuns.{IsMalformedProofs, IsMalformedReport, SpellsProofs, SpellsReport, SpellsRun}
+use Rattle.commands.specs.SpelledRuns.{IsMalformedProofs, IsMalformedReport, SpellsProofsOf, SpellsReport, SpellsRun}
 use Rattle.commands.specs.declared.launch.Launch.{Launch}
-use Rattle.commands.proofs.ModeRules.{version_by_number}
+use Rattle.run_files.proofs.Versions.{spelled_is_lawful, version_by_number}
 
 module _ (c : Circuit) (text : List ℕ) where
   pub spells_report : (paths : List ListedPath) → Reads (report_text c) (IsSpelledReport c) text (Some paths) → SpellsReport c text paths
@@ -52,18 +52,20 @@ module _ (c : Circuit) (text : List ℕ) where
         first = told.1;
       }
 
--- proofs whose version is that of the rules
+-- proofs whose version is one of the rules
 pub in_version : (c : Circuit) (text : List ℕ) (number : ℕ) (proofs : List Proof) (rules : Rules) → SpellsNumbered c text number proofs
-    → version_number (version_of rules) ≡ number → SpellsProofs c text (version_of rules) proofs
-in_version c text number proofs rules read is =
-    let same = version_by_number read.version (version_of rules) (sym read.is_number ∙ sym is) in
-    subst (λ (version : ProofsVersion). SpellsProofs c text version proofs) same read.spells
+    → (version : ProofsVersion) → version_number version ≡ number → IsVersionOf rules version → SpellsProofsOf c text rules proofs
+in_version c text number proofs rules read version is of = record {
+  version = read.version;
+  of_rules = subst (IsVersionOf rules) (version_by_number version read.version (is ∙ read.is_number)) of;
+  spells = read.spells;
+}
 
 -- the files can spell the run
-pub spelled_is_lawful : (launch : Launch) (c : Circuit) (tests report proofs : List ℕ) (run : Run) → SpellsRun launch c tests report proofs run
+pub run_is_lawful : (launch : Launch) (c : Circuit) (tests report proofs : List ℕ) (run : Run) → SpellsRun launch c tests report proofs run
     → IsLawfulRun c run
-spelled_is_lawful launch c tests report proofs run spells = record {
+run_is_lawful launch c tests report proofs run spells = record {
   tests = spells.tests_are.lawful;
   report = spells.report_is.lawful.lawful;
-  proofs = spells.proofs_are.lawful.lawful;
+  proofs = spelled_is_lawful c run.rules spells.proofs_are.version spells.proofs_are.of_rules run.proofs spells.proofs_are.spells.lawful;
 }

@@ -15,7 +15,8 @@ use Rattle.delay_annotation.specs.DelayFile.{HasDelays}
 use Rattle.run_files.specs.TestsText.{tests_text}
 use Rattle.run_files.specs.PlainTexts.{HasPlainNames}
 use Rattle.run_files.specs.ReportText.{report_text}
-use Rattle.run_files.specs.ProofsText.{proofs_text, version_of}
+use Rattle.run_files.specs.ProofsText.{proofs_text}
+use Rattle.run_files.specs.ProofsVersions.{version_of}
 use Rattle.run_files.specs.Summary.{summary_text}
 use Rattle.command_line.specs.Words.{RunCall}
 use Rattle.calls.specs.declared.role.Role.TheVariants as role
@@ -41,12 +42,12 @@ tests_due call c run = due_file role.Tests call.tests (tests_text c run.tests)
 abbrev pub report_due : RunCall → Circuit → Run → Due
 report_due call c run = due_file role.Report call.report (report_text c run.paths)
 
-abbrev pub proofs_due : RunCall → Run → Due
-proofs_due call run = due_file role.Proofs call.proofs (proofs_text (version_of run.rules) run.proofs)
+abbrev pub proofs_due : RunCall → Circuit → Run → Due
+proofs_due call c run = due_file role.Proofs call.proofs (proofs_text (version_of c run.rules run.proofs) run.proofs)
 
 -- these, in the order in which they are written
 abbrev pub run_files : RunCall → Circuit → Run → List Due
-run_files call c run = tests_due call c run ∷ report_due call c run ∷ proofs_due call run ∷ []
+run_files call c run = tests_due call c run ∷ report_due call c run ∷ proofs_due call c run ∷ []
 
 -- the files that are written for a circuit and a run, and the line on out
 abbrev pub gen_products : RunCall → Circuit → Run → Products

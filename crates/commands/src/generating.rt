@@ -71,7 +71,7 @@ fn write_files<F: Files>(
 {
     write_tests(alloc, command, net, run, files)?;
     write_report(alloc, command, net, run, files)?;
-    write_proofs(alloc, command, run, files)
+    write_proofs(alloc, command, net, run, files)
 }
 
 // Writes the tests file.
@@ -120,16 +120,18 @@ fn write_report<F: Files>(
 fn write_proofs<F: Files>(
     alloc: Global,
     command: &RunCommand,
+    net: &Netlist,
     run: &Run,
     files: &mut F,
 ) -> Result<(), Ending>
     requires { AreLawfulProofs run.now.proofs }
-    ensures whole { OnOk result (AreWhole (proofs_due (run_call_of command.now) run.now ∷ [])
+    ensures whole { OnOk result (AreWhole (proofs_due (run_call_of command.now) net.now run.now ∷ [])
         (files_seen F.Files files.old) (files_seen F.Files files.new)) }
-    ensures unwritten { IfErr result (λ ending. FailsToWrite (proofs_due (run_call_of command.now) run.now) ending
+    ensures unwritten { IfErr result (λ ending. FailsToWrite (proofs_due (run_call_of command.now) net.now run.now) ending
         (files_seen F.Files files.old) (files_seen F.Files files.new)) }
 {
     let proofs = ProofsPieces {
+        net,
         rules: &run.rules,
         proofs: run.proofs.as_slice(),
     };

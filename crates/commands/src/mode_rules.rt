@@ -2,7 +2,8 @@
 ghost use Rattle.std.specs.Prelude.{◌≡◌, ⊤, IfErr, IfOk, MatchOption, option_map};
 ghost use Rattle.netlist.specs.Lawful.{IsCircuit};
 ghost use Rattle.netlist.specs.LinkedPairs.{AreLinksOf, FitRules};
-ghost use Rattle.run_files.specs.ProofsText.{version_number, version_of};
+ghost use Rattle.run_files.specs.ProofsVersions.{version_number, IsVersionOf};
+ghost use Rattle.run_files.specs.declared.version.ProofsVersion.{ProofsVersion};
 ghost use Rattle.commands.specs.Inside.Checking.{FailsRules};
 ghost use Rattle.commands.specs.ModeRules.{AreRulesOf, FitsLaunch, launch_links, searched_rules};
 
@@ -32,8 +33,9 @@ pub(crate) fn searched_rules(
     }
 }
 
-/// The rules for pairs that are launched so that have the version of this number. PROOFS of a version that none of them has is refused for
-/// its first line, on which the version stands.
+/// The rules for pairs that are launched so that have the version of this number: two versions are of the rules of a mode, of trees that
+/// split at sources alone and of those that split at any line. PROOFS of a version that none of them has is refused for its first line, on
+/// which the version stands.
 pub(crate) fn judged_rules(
     alloc: Global,
     net: &Netlist,
@@ -43,14 +45,14 @@ pub(crate) fn judged_rules(
     requires circuit { IsCircuit net.now }
     requires fits { FitsLaunch net.now launch.now }
     ensures rules { IfOk result (AreRulesOf launch.now net.now) }
-    ensures version { IfOk result (λ rules. version_number (version_of rules) ≡ version) }
+    ensures version { IfOk result (λ rules. (read : ProofsVersion) × (version_number read ≡ version) × IsVersionOf rules read) }
     ensures fit { IfOk result (FitRules net.now) }
     ensures fails { IfErr result (FailsRules launch.now net.now version) }
 {
     match (launch_links(alloc, net, launch)?, version) {
         (None, 1) => Ok(Rules::One),
-        (None, 2) => Ok(Rules::Two),
-        (Some(links), 3) => Ok(Rules::Linked(links)),
+        (None, 2 | 4) => Ok(Rules::Two),
+        (Some(links), 3 | 5) => Ok(Rules::Linked(links)),
         _ => Err(Ending::Refused(malformed(b"check", Role::Proofs, 1))),
     }
 }

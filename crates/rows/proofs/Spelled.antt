@@ -26,5 +26,5 @@ lawful_report c text (Err fault) answer = tt
 -- proofs
 pub lawful_proofs : (c : Circuit) (text : List ℕ) (result : Result (ℕ × Vec Proof) TextFault) → ProofsAnswer c text result
     → IfOk result (λ read. AreLawfulProofs read.1.items)
-lawful_proofs c text (Ok read) answer = answer.2.found.0.lawful.lawful
+lawful_proofs c text (Ok read) answer = answer.2.found.0.lawful
 lawful_proofs c text (Err fault) answer = tt

@@ -100,13 +100,13 @@ fn paths_in(alloc: Global, net: &Netlist, text: &[u8]) -> Result<Vec<ListedPath>
     read_report(alloc, net, text)
 }
 
-// A proofs file, spelled anew in its version.
+// A proofs file, spelled anew in the version of its rules and its trees.
 fn proofs_anew(alloc: Global, net: &Netlist, text: &[u8]) -> Result<Vec<u8>, TextFault>
     requires { length text.now ≤ MOST_BYTES }
 {
     let (version, proofs) = proofs_in(alloc, net, text)?;
     let run = run_of(alloc, rules_of(alloc, version)?, Vec::new(alloc), proofs);
-    Ok(proofs_text(alloc, &run)?)
+    Ok(proofs_text(alloc, net, &run)?)
 }
 
 // The version and the proofs of a proofs file.
@@ -122,7 +122,7 @@ fn proofs_in(alloc: Global, net: &Netlist, text: &[u8]) -> Result<(u32, Vec<Proo
 fn rules_of(alloc: Global, version: u32) -> Result<Rules, OutOfMemory> {
     match version {
         1 => Ok(Rules::One),
-        2 => Ok(Rules::Two),
+        2 | 4 => Ok(Rules::Two),
         _ => Ok(Rules::Linked(Links::new(alloc, &[])?)),
     }
 }

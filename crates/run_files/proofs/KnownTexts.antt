@@ -1,5 +1,5 @@
 -- A report, a proofs file and two summaries that were written by hand, as a guard of the definitions of their texts.
-use Rattle.std.proofs.Common.{◌≡◌, true, false, List, [], ◌∷◌, codes, refl, lit<}
+use Rattle.std.proofs.Common.{◌≡◌, ℕ, true, false, List, [], ◌∷◌, codes, refl, lit<}
 use Rattle.std.proofs.lemmas.Fmt.{decimal_digit}
 use Rattle.pd_base.specs.declared.ids.PinRef.{PinRef}
 use Rattle.pd_base.specs.declared.fault.Direction.TheVariants.{Rise, Fall}
@@ -13,9 +13,13 @@ use Rattle.runs.specs.declared.run.Proof.{Proof}
 use Rattle.runs.specs.declared.run.Run.{Run}
 use Rattle.runs.specs.declared.run.Verdict.{Verdict}
 use Rattle.runs.specs.declared.run.Verdict.TheVariants.{Robust, Nonrobust, Untestable, Aborted}
-use Rattle.trees.specs.declared.tree.Node.TheVariants.{Closed, Waiting, Value, Steadiness}
+use Rattle.state_laws.specs.declared.split.SplitKind.{SplitKind}
+use Rattle.state_laws.specs.declared.split.SplitKind.TheVariants.{LastValue, Steadiness, FirstValue}
+use Rattle.trees.specs.declared.tree.Node.{Node}
+use Rattle.trees.specs.declared.tree.Node.TheVariants.{Closed, Waiting, Split}
 use Rattle.run_files.specs.ReportText.{report_text}
-use Rattle.run_files.specs.ProofsText.{proofs_text, version_of}
+use Rattle.run_files.specs.ProofsText.{proofs_text}
+use Rattle.run_files.specs.ProofsVersions.{version_of}
 use Rattle.run_files.specs.Summary.{summary_text}
 
 -- an input a, and an inverter n that is the output
@@ -52,6 +56,9 @@ refutation = record {
   tree = Closed ∷ [];
 }
 
+abbrev at : SplitKind → ℕ → Node
+at kind line = Split (record { line = record { 0 = line }; kind = kind })
+
 abbrev spent : Proof
 spent = record {
   spent = true;
@@ -59,14 +66,14 @@ spent = record {
   dir = Rise;
   path = 9;
   steps = 2;
-  tree = Value 1 ∷ Waiting ∷ Steadiness 0 ∷ Closed ∷ Waiting ∷ [];
+  tree = at LastValue 0 ∷ Waiting ∷ at Steadiness 0 ∷ Closed ∷ Waiting ∷ [];
 }
 
-two_proofs : proofs_text (version_of One) (refutation ∷ spent ∷ [])
-    ≡ codes "pdfgen proofs 1\n1 refutes nonrobust fall 1 2 X\n2 spent robust rise 9 2 V1 O H0 X O\n"
+two_proofs : proofs_text (version_of inverter One (refutation ∷ spent ∷ [])) (refutation ∷ spent ∷ [])
+    ≡ codes "pdfgen proofs 1\n1 refutes nonrobust fall 1 2 X\n2 spent robust rise 9 2 V0 O H0 X O\n"
 two_proofs = rw (decimal_digit 0 (lit< tt), decimal_digit 1 (lit< tt), decimal_digit 2 (lit< tt), decimal_digit 9 (lit< tt)) refl
 
-no_proofs_of_steady_sources : proofs_text (version_of Two) [] ≡ codes "pdfgen proofs 2\n"
+no_proofs_of_steady_sources : proofs_text (version_of inverter Two []) [] ≡ codes "pdfgen proofs 2\n"
 no_proofs_of_steady_sources = refl
 
 -- a refutation at a source without steps
@@ -81,9 +88,21 @@ at_the_source = record {
 }
 
 -- whatever is linked
-proof_of_linked_sources : (links : Links) → proofs_text (version_of (Linked links)) (at_the_source ∷ [])
+proof_of_linked_sources : (links : Links) → proofs_text (version_of inverter (Linked links) (at_the_source ∷ [])) (at_the_source ∷ [])
     ≡ codes "pdfgen proofs 3\n1 refutes nonrobust rise 2 0 X\n"
 proof_of_linked_sources links = rw (decimal_digit 0 (lit< tt), decimal_digit 1 (lit< tt), decimal_digit 2 (lit< tt)) refl
+
+-- a refutation that splits at the inverter's line, under rules two and under linked ones, by first values, too
+abbrev at_a_gate : SplitKind → Proof
+at_a_gate kind = record at_the_source { tree = at kind 1 ∷ Closed ∷ Closed ∷ [] }
+
+proof_at_lines : proofs_text (version_of inverter Two (at_a_gate LastValue ∷ [])) (at_a_gate LastValue ∷ [])
+    ≡ codes "pdfgen proofs 4\n1 refutes nonrobust rise 2 0 V1 X X\n"
+proof_at_lines = rw (decimal_digit 0 (lit< tt), decimal_digit 1 (lit< tt), decimal_digit 2 (lit< tt)) refl
+
+proof_by_first_values : (links : Links) → proofs_text (version_of inverter (Linked links) (at_a_gate FirstValue ∷ [])) (at_a_gate FirstValue ∷ [])
+    ≡ codes "pdfgen proofs 5\n1 refutes nonrobust rise 2 0 F1 X X\n"
+proof_by_first_values links = rw (decimal_digit 0 (lit< tt), decimal_digit 1 (lit< tt), decimal_digit 2 (lit< tt)) refl
 
 -- a run of these paths, as far as a summary counts it
 abbrev run_of : List ListedPath → Run

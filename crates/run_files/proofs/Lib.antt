@@ -12,6 +12,7 @@ pub mod TestFiles
 pub mod ProofLines
 pub mod WholeProofs
 pub mod ProofFiles
+pub mod Versions
 mod ProofHeads
 mod ReportVerdicts
 mod ReportNames

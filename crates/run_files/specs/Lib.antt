@@ -2,6 +2,7 @@ pub mod LadderLine
 pub mod PlainTexts
 pub mod ProofsReading
 pub mod ProofsText
+pub mod ProofsVersions
 pub mod ReportForm
 pub mod ReportReading
 pub mod ReportRows

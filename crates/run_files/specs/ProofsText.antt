@@ -2,23 +2,28 @@
 -- writes or reads it cites `proofs_form`: which proof may come next, and its line.
 use Rattle.std.specs.Prelude.{⊤, ℕ, ◌+◌, List, ◌∷◌, ◌++◌, Bool, true, false, map, codes, decimal}
 use Rattle.std.specs.List.{join_with_byte}
-use Rattle.pd_base.specs.declared.rules.Rules.{Rules}
-use Rattle.pd_base.specs.declared.rules.Rules.TheVariants.{One, Two, Linked}
 use Rattle.runs.specs.declared.run.Proof.{Proof}
+use Rattle.state_laws.specs.declared.split.SplitKind.{SplitKind}
+use Rattle.state_laws.specs.declared.split.SplitKind.TheVariants.{LastValue, Steadiness, FirstValue}
 use Rattle.trees.specs.declared.tree.Node.{Node}
-use Rattle.trees.specs.declared.tree.Node.TheVariants.{Closed, Waiting, Value, Steadiness}
+use Rattle.trees.specs.declared.tree.Node.TheVariants.{Closed, Waiting, Split}
 use Rattle.runs.specs.Lawful.{IsLawfulProof}
 use Rattle.text_pieces.specs.Tokens.{space, line, direction_word, kind_word}
 use Rattle.text_pieces.specs.LineFiles.{Form, lines_text}
 use Rattle.run_files.specs.declared.version.ProofsVersion.{ProofsVersion}
-use Rattle.run_files.specs.declared.version.ProofsVersion.TheVariants.{First, Second, Third}
+use Rattle.run_files.specs.ProofsVersions.{version_line}
 
--- a closed leaf X, an open one O, a split on a source's final value V, or on its steadiness H
+-- a split by last value V, by steadiness H, or by first value F
+abbrev pub kind_letter : SplitKind → List ℕ
+kind_letter LastValue = codes "V"
+kind_letter Steadiness = codes "H"
+kind_letter FirstValue = codes "F"
+
+-- a closed leaf X, an open one O, a split: its letter and the number of its line
 abbrev pub node_text : Node → List ℕ
 node_text Closed = codes "X"
 node_text Waiting = codes "O"
-node_text (Value source) = codes "V" ++ decimal source
-node_text (Steadiness source) = codes "H" ++ decimal source
+node_text (Split split) = kind_letter split.kind ++ decimal split.line.0
 
 -- what a proof claims: that the budget was spent, or a refutation
 abbrev pub claim_word : Bool → List ℕ
@@ -43,24 +48,6 @@ proofs_form Lawful = record {
   next = λ number proof. number + 1;
   Ends = λ number. ⊤;
 }
-
--- the version of the file of proofs that are judged under these rules; which links linked rules have, no version tells
-abbrev pub version_of : Rules → ProofsVersion
-version_of One = First
-version_of Two = Second
-version_of (Linked links) = Third
-
--- its number
-abbrev pub version_number : ProofsVersion → ℕ
-version_number First = 1
-version_number Second = 2
-version_number Third = 3
-
--- its first line
-abbrev pub version_line : ProofsVersion → List ℕ
-version_line First = codes "pdfgen proofs 1"
-version_line Second = codes "pdfgen proofs 2"
-version_line Third = codes "pdfgen proofs 3"
 
 -- the whole file
 abbrev pub proofs_text : ProofsVersion → List Proof → List ℕ

@@ -12,10 +12,10 @@ use runs::Proof;
 use std::alloc::Global;
 use text_pieces::{split_line, text_behind};
 
-/// The version of a proofs file, by the number that its first line has (1 under rules One, 2 under rules Two, 3 under linked rules),
-/// and the proofs whose file these bytes are: lawful ones of this circuit, each in its one spelling. Which rules have this version, and
-/// with which links, is the caller's to know. `Malformed` exactly where there are none such, with the first line that lacks its form
-/// given the lines before it, unless memory runs out first.
+/// The version of a proofs file, by the number that its first line has (1 under rules One, 2 under rules Two, 3 under linked rules; 4 and 5
+/// under these two where trees may split at any line), and the proofs whose file these bytes are: lawful ones of this circuit and version,
+/// each in its one spelling. Which rules have this version, and with which links, is the caller's to know. `Malformed` exactly where there
+/// are none such, with the first line that lacks its form given the lines before it, unless memory runs out first.
 pub fn read_proofs(
     alloc: Global,
     net: &Netlist,
@@ -27,7 +27,7 @@ pub fn read_proofs(
     let Some((version, lines)) = read_version(bytes) else {
         return Err(TextFault::Malformed(1));
     };
-    let proofs = read_proof_lines(alloc, net, lines)?;
+    let proofs = read_proof_lines(alloc, net, version, lines)?;
     Ok((version.number(), proofs))
 }
 
@@ -42,14 +42,25 @@ fn read_version(bytes: &[u8]) -> Option<(ProofsVersion, &[u8])>
     if let Some(lines) = text_behind(ProofsVersion::Second.line(), bytes) {
         return Some((ProofsVersion::Second, lines));
     }
-    let lines = text_behind(ProofsVersion::Third.line(), bytes)?;
-    Some((ProofsVersion::Third, lines))
+    if let Some(lines) = text_behind(ProofsVersion::Third.line(), bytes) {
+        return Some((ProofsVersion::Third, lines));
+    }
+    if let Some(lines) = text_behind(ProofsVersion::Fourth.line(), bytes) {
+        return Some((ProofsVersion::Fourth, lines));
+    }
+    let lines = text_behind(ProofsVersion::Fifth.line(), bytes)?;
+    Some((ProofsVersion::Fifth, lines))
 }
 
-// The proofs of the lines behind the first.
-fn read_proof_lines(alloc: Global, net: &Netlist, text: &[u8]) -> Result<Vec<Proof>, TextFault>
+// The proofs of the lines behind the first, which tells this version.
+fn read_proof_lines(
+    alloc: Global,
+    net: &Netlist,
+    version: ProofsVersion,
+    text: &[u8],
+) -> Result<Vec<Proof>, TextFault>
     requires { length text.now ≤ MOST_BYTES }
-    ensures { ProofLinesAnswer net.now text.now result }
+    ensures { ProofLinesAnswer net.now version text.now result }
 {
     let mut proofs = Vec::new(alloc);
     let mut rest = text;
@@ -58,7 +69,7 @@ fn read_proof_lines(alloc: Global, net: &Netlist, text: &[u8]) -> Result<Vec<Pro
         let Some((line, behind)) = split_line(rest) else {
             return Err(TextFault::Malformed(number + 1));
         };
-        let Some(proof) = read_proof(alloc, net, number, line)? else {
+        let Some(proof) = read_proof(alloc, net, version, number, line)? else {
             return Err(TextFault::Malformed(number + 1));
         };
         proofs.push(proof)?;

@@ -4,6 +4,7 @@ use Rattle.std.specs.Prelude.{◌≡◌, ⊤, ℕ, ◌+◌, ◌<◌, ◌≤◌, 
 use Rattle.pd_base.specs.declared.test.Test.{Test}
 use Rattle.pd_base.specs.declared.limits.TheConstants.{MOST_PATHS}
 use Rattle.pd_base.specs.Route.{Route}
+use Rattle.pd_base.specs.declared.rules.Rules.{Rules}
 use Rattle.netlist.specs.declared.limits.TheConstants.{MOST_LEVELS}
 use Rattle.netlist.specs.Circuit.{Circuit, source_count, observed_lines}
 use Rattle.netlist.specs.Pins.{IsPin}
@@ -13,7 +14,8 @@ use Rattle.runs.specs.declared.run.Run.{Run}
 use Rattle.runs.specs.declared.run.Verdict.{Verdict}
 use Rattle.runs.specs.declared.run.Verdict.TheVariants.{Robust, Nonrobust, Untestable, Aborted}
 use Rattle.trees.specs.declared.tree.Node.{Node}
-use Rattle.trees.specs.declared.tree.Node.TheVariants.{Closed, Waiting, Value, Steadiness}
+use Rattle.trees.specs.declared.tree.Node.TheVariants.{Closed, Waiting, Split}
+use Rattle.trees.specs.Refutations.{IsSplitOf}
 use Rattle.runs.specs.Verdicts.{verdicts_of}
 
 -- the number of a listed path, from 1
@@ -88,20 +90,19 @@ pub record IsLawfulProof (proof : Proof) : Type 0 where
 abbrev pub AreLawfulProofs : List Proof → Type 0
 AreLawfulProofs proofs = All IsLawfulProof proofs
 
--- a split is on a source
-abbrev pub IsOnSource : Circuit → Node → Type 0
-IsOnSource c Closed = ⊤
-IsOnSource c Waiting = ⊤
-IsOnSource c (Value source) = source < source_count c
-IsOnSource c (Steadiness source) = source < source_count c
+-- a node of a tree under these rules: a leaf, or a split that a refutation under them may have
+abbrev pub IsNodeOf : Circuit → Rules → Node → Type 0
+IsNodeOf c rules Closed = ⊤
+IsNodeOf c rules Waiting = ⊤
+IsNodeOf c rules (Split split) = IsSplitOf c rules split
 
--- the proofs that a proofs file of this circuit may list
-pub record AreLawfulProofsOf (c : Circuit) (proofs : List Proof) : Type 0 where
+-- the proofs that a proofs file of this circuit and these rules may list
+pub record AreLawfulProofsOf (c : Circuit) (rules : Rules) (proofs : List Proof) : Type 0 where
   pub lawful : AreLawfulProofs proofs
-  pub on_sources : All (λ proof. All (IsOnSource c) proof.tree) proofs
+  pub nodes : All (λ proof. All (IsNodeOf c rules) proof.tree) proofs
 
 -- a run that the three files can spell
 pub record IsLawfulRun (c : Circuit) (run : Run) : Type 0 where
   pub tests : AreLawfulTests c run.tests
   pub report : IsLawfulReport c run.paths
-  pub proofs : AreLawfulProofsOf c run.proofs
+  pub proofs : AreLawfulProofsOf c run.rules run.proofs

@@ -1,5 +1,5 @@
 -- How far a call of `check` has come, in words that no other command speaks (this project's own).
-use Rattle.std.specs.Prelude.{◌≡◌, ◌≢◌, ◌≤◌, ⊤, ℕ, List, [], ◌∷◌, ◌++◌, length, codes, Result, MatchResult}
+use Rattle.std.specs.Prelude.{◌≡◌, ◌≤◌, ⊤, ℕ, List, [], ◌∷◌, ◌++◌, length, codes, Result, MatchResult}
 use Rattle.pd_base.specs.declared.rules.Rules.{Rules}
 use Rattle.pd_base.specs.declared.test.Test.{Test}
 use Rattle.pd_io.specs.Seen.{FilesSeen}
@@ -16,7 +16,7 @@ use Rattle.claim_check.specs.declared.claim.Reason.{Reason}
 use Rattle.bench_reader.specs.Circuits.{HasCircuit}
 use Rattle.delay_annotation.specs.DelayFile.{HasDelays}
 use Rattle.pd_base.specs.declared.limits.TheConstants.{MOST_BYTES}
-use Rattle.run_files.specs.ProofsText.{version_number, version_of}
+use Rattle.run_files.specs.ProofsVersions.{version_number, IsVersionOf}
 use Rattle.run_files.specs.declared.version.ProofsVersion.{ProofsVersion}
 use Rattle.command_line.specs.Words.{RunCall}
 use Rattle.calls.specs.declared.ending.Ending.{Ending}
@@ -67,7 +67,8 @@ ReadsClaims call result old new =
 
 -- no rules of the launch have the version of this number, and it is refused so
 pub record HasNoRules (launch : Launch) (c : Circuit) (number : ℕ) (refusal : Refusal) : Type 0 where
-  pub none_has : (rules : Rules) → AreRulesOf launch c rules → version_number (version_of rules) ≢ number
+  pub none_has : (rules : Rules) → AreRulesOf launch c rules → (version : ProofsVersion) → version_number version ≡ number
+      → ¬ IsVersionOf rules version
   pub is : refusal ≡ malformed (codes "check") role.Proofs 1
 
 -- there are no rules for it

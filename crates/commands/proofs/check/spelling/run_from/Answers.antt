@@ -4,7 +4,7 @@ use Rattle.runs.specs.Lawful.{IsLawfulRun}
 use Rattle.command_line.specs.Commands.{run_call_of}
 use Rattle.commands.specs.SpelledRuns.{SpellsRun}
 use Rattle.commands.proofs.CheckStages.{run_read}
-use Rattle.commands.proofs.SpelledRuns.{spelled_is_lawful}
+use Rattle.commands.proofs.SpelledRuns.{run_is_lawful}
 use Rattle.commands.proofs.check.spelling.run_from.Goals as goal
 
 pub returns-in_err-texts-clause-reads : goal.returns-in_err-texts-clause-reads
@@ -16,7 +16,7 @@ pub returns-clause-lawful : goal.returns-clause-lawful
 returns-clause-lawful g c =
     let texts = c.in_ok-texts.texts in
     IfOk-weaker c.run_in.result (SpellsRun c.args.launch.now c.args.net.now texts.tests.items texts.report.items texts.proofs.items) (IsLawfulRun c.args.net.now)
-    (λ run spells. spelled_is_lawful c.args.launch.now c.args.net.now texts.tests.items texts.report.items texts.proofs.items run spells) c.run_in.ensures.spells
+    (λ run spells. run_is_lawful c.args.launch.now c.args.net.now texts.tests.items texts.report.items texts.proofs.items run spells) c.run_in.ensures.spells
 
 pub returns-clause-reads : goal.returns-clause-reads
 returns-clause-reads g c first net delays scans has launched before =

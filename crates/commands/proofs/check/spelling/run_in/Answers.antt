@@ -4,8 +4,7 @@ use Rattle.std.proofs.lemmas.Result.{err_from_is_err_and}
 use Rattle.commands.specs.Inside.InputJudging.{FailsProofs, FailsReport, FailsTests}
 use Rattle.commands.specs.SpelledTests.{SpellsTests}
 use Rattle.commands.specs.Inside.Checking as checking
-use Rattle.run_files.specs.ProofsText.{version_of}
-use Rattle.commands.specs.SpelledRuns.{SpellsProofs, SpellsReport}
+use Rattle.commands.specs.SpelledRuns.{SpellsProofsOf, SpellsReport}
 use Rattle.commands.specs.Inside.Checking.{SpellsNumbered}
 use Rattle.commands.proofs.SpelledRuns.{in_version}
 use Rattle.commands.proofs.check.spelling.run_in.Goals as goal
@@ -52,9 +51,10 @@ returns-clause-spells c = record {
   report_is = subst (SpellsReport c.args.net.now c.args.texts.now.report.items) (sym c.new.ensures)
       (subst (λ (text : List ℕ). SpellsReport c.args.net.now text c.in_ok-paths.paths.items) c.as_slice-2.ensures.value c.in_ok-paths.ensures.spells);
   of_mode = c.in_ok-rules.ensures.rules;
-  proofs_are = subst (SpellsProofs c.args.net.now c.args.texts.now.proofs.items (version_of c.in_ok-rules.rules)) (sym c.new-3.ensures)
+  proofs_are = subst (SpellsProofsOf c.args.net.now c.args.texts.now.proofs.items c.in_ok-rules.rules) (sym c.new-3.ensures)
       (in_version c.args.net.now c.args.texts.now.proofs.items c.in_ok-versioned.versioned.version c.in_ok-versioned.versioned.proofs.items
       c.in_ok-rules.rules
       (subst (λ (text : List ℕ). SpellsNumbered c.args.net.now text c.in_ok-versioned.versioned.version c.in_ok-versioned.versioned.proofs.items)
-      c.as_slice-3.ensures.value c.in_ok-versioned.ensures.spells) c.in_ok-rules.ensures.version);
+      c.as_slice-3.ensures.value c.in_ok-versioned.ensures.spells) c.in_ok-rules.ensures.version.0 c.in_ok-rules.ensures.version.1
+      c.in_ok-rules.ensures.version.2);
 }
