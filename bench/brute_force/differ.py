@@ -16,12 +16,9 @@ LONG = 20_000           # bytes of PROOFS above which hulls aren't judged here
 
 
 def half_mask(universe, node, second):
-    kind, q = node
-    if kind == "V":
-        mask = universe.v2[q]
-        return mask if second else universe.all & ~mask
-    mask = universe.steady(q)
-    return universe.all & ~mask if second else mask
+    kind, line = node
+    mask = universe.v2[line] if kind == "V" else universe.v1[line] if kind == "F" else universe.all & ~universe.steady(line)
+    return mask if second else universe.all & ~mask
 
 
 def masks(universe, tree):
@@ -30,7 +27,7 @@ def masks(universe, tree):
     for node in tree:
         at = due.pop()
         yield node, at
-        if node[0] in "VH":
+        if node[0] in j.SPLITS:
             due += [at & half_mask(universe, node, 1), at & half_mask(universe, node, 0)]
 
 
@@ -49,15 +46,14 @@ class Flaws(list):
 
 def look(flaws, setting, case, universe, texts, summary):
     net = setting.net
-    version = 2 if case.mode == "enhanced" else 3
     try:
         tests = j.read_tests(net, texts[0])
         paths, faults = j.read_report(net, texts[1])
-        found, proofs = j.read_proofs(net, texts[2], (1, 2, 3))
+        version, proofs = j.read_proofs(net, texts[2], tuple(j.VERSIONS))
     except j.Malformed as e:
         flaws.need(False, "a file is malformed at line", e.line)
         return
-    flaws.need(found == version, "PROOFS has version", found)
+    flaws.need(version == j.version_written(net, case.mode, [proof[5] for proof in proofs]), "PROOFS has version", version)
     flaws.need(paths == setting.first, "other paths are listed")
     counts = collections.Counter(f[0] for f in faults)
     due = "paths %d robust %d nonrobust %d untestable %d aborted %d\n" % (len(paths), *(counts[v] for v in j.HAS))
@@ -121,7 +117,7 @@ def look_at_spent(flaws, setting, rules, universe, path, kind, direction, tree, 
         for q in of_support:
             tried &= state_mask(universe, rules, q, (found[q] & -found[q]).bit_length() - 1)
         flaws.need(not tried, "spent proof", at, "has a node whose pair is a test")
-        if node[0] in "VH":
+        if node[0] in j.SPLITS:
             flaws.need(node[1] in of_support and all(found[node[1]] & j.half(rules.algebra, node[0], s) for s in (0, 1)),
                        "spent proof", at, "has a vain split")
 

@@ -1,4 +1,5 @@
 """The judge: hulls, refutations and spent trees by their definitions, the forms of the three files, and what `check` has to say of them."""
+import collections
 import functools
 import itertools
 
@@ -10,6 +11,12 @@ STATES = {FOUR: ((1, None, 0), (1, None, 1), (0, None, 0), (0, None, 1)),
           SIX: ((1, 0, 0), (1, 1, 1), (0, 0, 0), (0, 0, 1), (0, 1, 0), (0, 1, 1))}
 SOURCE_STATES = {FOUR: 0b1111, SIX: 0b011011}         # S0 S1 N0 N1; S0 S1 N01 N10
 STEADY = 0b11
+# A split is by last value V, by steadiness H, or by first value F. Of each version of PROOFS: the name of its rules, the letters of its splits,
+# and whether they are at any line, or else at sources alone.
+SPLITS = "VHF"
+Version = collections.namedtuple("Version", "rules letters any_line")
+VERSIONS = {1: Version("One", "VH", False), 2: Version("Two", "VH", False), 3: Version("Linked", "VH", False), 4: Version("Two", "VH", True),
+            5: Version("Linked", SPLITS, True)}
 
 
 def last_of(algebra, state):
@@ -185,9 +192,10 @@ def hull(net, rules, steps, kind_of_test, labels, lines=None):
 
 
 def half(algebra, node, second):
-    """The states of a half of V or H."""
-    if node == "V":
-        return sum(1 << s for s in range(algebra) if last_of(algebra, s) == second)
+    """The states of a half of V, H or F."""
+    if node in "VF":
+        value_of = last_of if node == "V" else first_of
+        return sum(1 << s for s in range(algebra) if value_of(algebra, s) == second)
     return ((1 << algebra) - 1) & ~STEADY if second else STEADY
 
 
@@ -197,33 +205,56 @@ def is_whole(tree):
     for at, node in enumerate(tree):
         if due == 0:
             return False
-        due += 1 if node[0] in "VH" else -1
+        due += 1 if node[0] in SPLITS else -1
     return due == 0
 
 
 def splits(tree):
-    return sum(node[0] in "VH" for node in tree)
+    return sum(node[0] in SPLITS for node in tree)
+
+
+def is_source_split(net, node):
+    return node[0] in "VH" and node[1] < net.s
+
+
+def is_tree_of_sources(net, tree):
+    return all(node[0] in "XO" or is_source_split(net, node) for node in tree)
+
+
+def is_split_of(net, rules, node):
+    """Whether a node is a split that a refutation under these rules may have."""
+    if rules.name == "One":
+        return is_source_split(net, node)
+    return node[0] in (SPLITS if rules.name == "Linked" else "VH") and node[1] < len(net.names)
+
+
+def version_written(net, mode, trees):
+    """The version in which a run of this mode with these trees is written."""
+    of_sources = all(is_tree_of_sources(net, tree) for tree in trees)
+    if mode == "enhanced":
+        return 2 if of_sources else 4
+    return 3 if of_sources else 5
 
 
 def walk(net, rules, steps, kind, tree, labels):
     """Each node with its hull (None where it closes), in preorder. A half's hull is that of its split's hull, cut: each labelling at rest within
-    the one is within the other. A split's source must be a source."""
+    the one is within the other. A split's line may be any: all gates are narrowed."""
     due = [(labels, None)]
     for node in tree:
         at, lines = due.pop()
         found = at and hull(net, rules, steps, kind, at, lines)
         yield node, found
-        if node[0] in "VH":
-            q = node[1]
+        if node[0] in SPLITS:
+            line = node[1]
             for second in (1, 0):
                 cut = found and list(found)
                 if cut:
-                    cut[q] &= half(rules.algebra, node[0], second)
-                due.append((cut, [q]))
+                    cut[line] &= half(rules.algebra, node[0], second)
+                due.append((cut, [line]))
 
 
 def refutes(net, rules, source, steps, direction, kind, tree):
-    if not all(node[0] == "X" or node[0] in "VH" and node[1] < net.s for node in tree):
+    if not all(node[0] == "X" or node[0] != "O" and is_split_of(net, rules, node) for node in tree):
         return False
     return all(found is None for node, found in walk(net, rules, steps, kind, tree, start(net, rules, source, direction)) if node[0] == "X")
 
@@ -239,7 +270,7 @@ def trial(net, rules, steps, kind, found, of_support):
 def is_spent(net, rules, source, steps, direction, kind, tree, budget):
     if splits(tree) != budget or not any(node[0] == "O" for node in tree):
         return False
-    if not all(node[0] in "XO" or node[1] < net.s for node in tree):
+    if not is_tree_of_sources(net, tree):
         return False
     of_support = r.support(net, r.end_of(net, source, steps), rules.links)
     for node, found in walk(net, rules, steps, kind, tree, start(net, rules, source, direction)):
@@ -247,7 +278,7 @@ def is_spent(net, rules, source, steps, direction, kind, tree, budget):
             return False
         if node[0] == "X":
             continue
-        if node[0] in "VH" and (node[1] not in of_support or not all(found[node[1]] & half(rules.algebra, node[0], second) for second in (0, 1))):
+        if node[0] in SPLITS and (node[1] not in of_support or not all(found[node[1]] & half(rules.algebra, node[0], second) for second in (0, 1))):
             return False
         if trial(net, rules, steps, kind, found, of_support) is not None:
             return False
@@ -367,12 +398,12 @@ def read_report(net, data):
     return paths, faults
 
 
-def read_tree(net, words):
-    tree = []
+def read_tree(net, version, words):
+    tree, lines = [], len(net.names) if VERSIONS[version].any_line else net.s
     for word in words:
         if word in ("X", "O"):
             tree.append((word,))
-        elif word[:1] in ("V", "H") and canonical(word[1:]) is not None and int(word[1:]) < net.s:
+        elif word and word[0] in VERSIONS[version].letters and canonical(word[1:]) is not None and int(word[1:]) < lines:
             tree.append((word[0], int(word[1:])))
         else:
             return None
@@ -392,7 +423,7 @@ def read_proofs(net, data, versions):
         if len(f) < 7 or f[0] != str(len(proofs) + 1) or f[1] not in ("refutes", "spent") or f[2] not in (r.ROBUST, r.NONROBUST) \
                 or f[3] not in (r.RISE, r.FALL) or canonical(f[4], 1, 10_000) is None or canonical(f[5], 0, 4_096) is None:
             raise Malformed(at)
-        tree = read_tree(net, f[6:])
+        tree = read_tree(net, version, f[6:])
         if tree is None:
             raise Malformed(at)
         proofs.append((f[1], f[2], f[3], int(f[4]), int(f[5]), tree))
@@ -416,13 +447,14 @@ class Setting:
         self.links = r.links_of(self.net, self.mode, r.read_scan(self.net, scan) if self.mode == "skewed" else ())
 
     def rules(self, version):
-        return Rules("Linked", self.links) if version == 3 else Rules({1: "One", 2: "Two"}[version])
+        name = VERSIONS[version].rules
+        return Rules(name, self.links if name == "Linked" else None)
 
     def versions(self):
-        return (1, 2, 3) if self.knows else (1, 2)
+        return tuple(VERSIONS) if self.knows else (1, 2)
 
     def is_of_mode(self, version):
-        return (version == 3) == (self.mode != "enhanced")
+        return (VERSIONS[version].rules == "Linked") == (self.mode != "enhanced")
 
 
 def check(setting, tests_text, report_text, proofs_text, memo=None):

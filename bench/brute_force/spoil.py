@@ -240,7 +240,7 @@ class Spoiler:
         at = self.pick(PROOFS, 1)
         if at is None:
             return False
-        split = [n for n in range(1, len(self.lines[PROOFS])) if " V" in self.lines[PROOFS][n] or " H" in self.lines[PROOFS][n]]
+        split = [n for n in range(1, len(self.lines[PROOFS])) if any(" " + letter in self.lines[PROOFS][n] for letter in j.SPLITS)]
         spent = [n for n in split if " spent " in self.lines[PROOFS][n]]
         if split and self.rng.random() < 0.7:
             at = self.rng.choice(spent if spent and self.rng.random() < 0.7 else split)
@@ -251,19 +251,42 @@ class Spoiler:
         self.lines[PROOFS][at] = " ".join(f[:6] + tree)
         return True
 
+    def any_split(self):
+        """A split at a source, or, where the version may have it, mostly at any line."""
+        net = self.setting.net
+        if self.lines[PROOFS][0][-1:] in ("4", "5") and self.rng.random() < 0.7:
+            return self.rng.choice("VVHF" if self.setting.mode != "enhanced" else "VVH") + str(self.rng.randrange(len(net.names)))
+        return self.rng.choice("VVH") + str(self.rng.randrange(net.s))
+
+    def widen(self):
+        """The mode's version of splits at any line."""
+        self.lines[PROOFS][0] = "pdfgen proofs " + ("4" if self.setting.mode == "enhanced" else "5")
+
+    def at_any_line(self):
+        """That version, and some closed leaves made splits with two mostly closed leaves; so a refutation mostly stays one, within the budget."""
+        self.widen()
+
+        def change(tree):
+            at = self.rng.randrange(len(tree))
+            if tree[at] != "X":
+                return False
+            tree[at:at + 1] = [self.any_split(), "X", self.rng.choice("XXXXXO")]
+            return True
+        return any([self.tree(change) for _ in range(self.rng.choice((1, 1, 2, 4)))])
+
     def node(self):
         def change(tree):
             at = self.rng.randrange(len(tree))
-            n = self.setting.net.s
+            n, lines = self.setting.net.s, len(self.setting.net.names)
             word = tree[at]
             way = self.rng.random()
             if word[0] in "XO":
                 tree[at] = self.rng.choice(("O" if word == "X" else "X", "V%d" % self.rng.randrange(n), word)) if way < 0.9 else "Y"
                 return tree[at] != word
             if way < 0.4:
-                tree[at] = ("H" if word[0] == "V" else "V") + word[1:]
+                tree[at] = self.rng.choice([letter for letter in "VHVHF" if letter != word[0]]) + word[1:]
             elif way < 0.9:
-                tree[at] = word[0] + str(self.rng.randrange(n + 1))
+                tree[at] = word[0] + str(self.rng.randrange((n if way < 0.65 else lines) + 1))
             else:
                 tree[at] = self.rng.choice(("X", "V", "V0" + word[1:], "V-1", "v" + word[1:]))
             return tree[at] != word
@@ -272,7 +295,7 @@ class Spoiler:
     def end_of_subtree(self, tree, at):
         due = 1
         while due:
-            due += 1 if tree[at][0] in "VH" else -1
+            due += 1 if tree[at][0] in j.SPLITS else -1
             at += 1
         return at
 
@@ -280,12 +303,11 @@ class Spoiler:
         """A subtree made a leaf, a leaf made a split, two halves exchanged, or a half in place of its split."""
         def change(tree):
             at = self.rng.randrange(len(tree))
-            n = self.setting.net.s
             end = self.end_of_subtree(tree, at)
             way = self.rng.random()
             if tree[at][0] in "XO":
                 leaf = self.rng.choice(("X", "O", tree[at]))
-                tree[at:end] = [self.rng.choice("VH") + str(self.rng.randrange(n)), leaf, self.rng.choice((tree[at], "X", "O"))]
+                tree[at:end] = [self.any_split(), leaf, self.rng.choice((tree[at], "X", "O"))]
                 return True
             middle = self.end_of_subtree(tree, at + 1)
             if way < 0.4:
@@ -301,11 +323,11 @@ class Spoiler:
         """An open leaf made a split with two open halves, and a split with two open halves made open: the number of splits stays."""
         def change(tree):
             opens = [at for at, w in enumerate(tree) if w == "O"]
-            pairs = [at for at in range(len(tree) - 2) if tree[at][0] in "VH" and tree[at + 1] in "XO" and tree[at + 2] in "XO"]
+            pairs = [at for at in range(len(tree) - 2) if tree[at][0] in j.SPLITS and tree[at + 1] in "XO" and tree[at + 2] in "XO"]
             if not opens or not pairs:
                 return False
             a, b = self.rng.choice(opens), self.rng.choice(pairs)
-            split = [self.rng.choice("VVH") + str(self.rng.randrange(self.setting.net.s)), "O", self.rng.choice("OOX")]
+            split = [self.any_split(), "O", self.rng.choice("OOX")]
             if b <= a <= b + 2:
                 tree[b:b + 3] = split
             elif a < b:
@@ -338,11 +360,18 @@ class Spoiler:
         return True
 
     def version(self):
-        self.lines[PROOFS][0] = self.rng.choice(("pdfgen proofs 1", "pdfgen proofs 2", "pdfgen proofs 3", "pdfgen proofs 4", "pdfgen proofs 03", "pdfgen proofs "))
+        self.lines[PROOFS][0] = "pdfgen proofs " + self.rng.choice(("1", "2", "3", "4", "4", "5", "5", "6", "03", ""))
         return True
 
     def version_and_flaw(self):
         return self.version() and self.any_line()
+
+    def version_and_subtree(self):
+        return self.at_any_line() and self.subtree()
+
+    def version_and_spent_move(self):
+        self.widen()
+        return self.spent_move()
 
     def one_more_proof(self):
         """A proof doubled at the end, or the last one left out."""
@@ -455,9 +484,10 @@ class Spoiler:
 
 WAYS = ("v1", "v2", "expected", "test_word", "test_number", "pair", "pair", "report_cell", "report_cells_of_proofs", "length", "path", "verdict_word", "verdict",
         "verdict", "drop_path", "proof_number", "proof_word", "node", "node", "subtree", "subtree", "spent_move", "longer", "version", "version_and_flaw",
-        "one_more_proof", "new_proof", "swapped_proofs", "any_line", "byte", "byte", "words", "scan")
+        "at_any_line", "at_any_line", "version_and_subtree", "version_and_spent_move", "one_more_proof", "new_proof", "swapped_proofs", "any_line", "byte", "byte", "words", "scan")
 
-OF_TREES = ("node", "subtree", "spent_move", "spent_move", "proof_number", "proof_word", "longer")
+OF_TREES = ("node", "subtree", "spent_move", "spent_move", "proof_number", "proof_word", "longer", "at_any_line",
+            "version_and_spent_move")
 
 
 def due_of(setting, spoiler, texts, memo):

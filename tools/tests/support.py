@@ -61,6 +61,16 @@ class ToolTest(unittest.TestCase):
         self.assertEqual(sorted(self.folder.iterdir()), before)
 
 
+def gate_split_files(test: ToolTest) -> Tuple[str, str, str, str]:
+    """A run of one path, through y, with proofs of version 5 that split at lines of gates: g, a side pin of y, and u and v, which are none. They
+    needn't refute, since a page doesn't judge them."""
+    net = test.write("net", lines("INPUT(a)", "INPUT(b)", "INPUT(c)", "OUTPUT(y)", "u = XOR(b, c)", "v = XNOR(b, c)", "g = NOR(u, v)", "y = AND(a, g)"))
+    report = test.write("report", lines(REPORT_HEADER, "1,rise,9,a,y:0,untestable,-,-,1", "1,fall,9,a,y:0,untestable,-,-,2"))
+    tests = test.write("tests", lines("pdfgen tests 1", "sources a b c", "observed y"))
+    proofs = test.write("proofs", lines("pdfgen proofs 5", "1 refutes nonrobust rise 1 1 F3 X V4 X H0 X X", "2 refutes nonrobust fall 1 1 V5 X X"))
+    return net, tests, report, proofs
+
+
 def hazard_files(test: ToolTest) -> Tuple[str, str, str]:
     """The netlist y = AND(a, m) with m = NOT(a), and a run of it with a delay of 5 units at pin 0 of y."""
     report = test.write("report", lines(

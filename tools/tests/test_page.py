@@ -4,9 +4,9 @@ from __future__ import annotations
 import json
 import random
 import re
-from typing import Any, Dict
+from typing import Any, Dict, Sequence
 
-from support import REPORT_HEADER, ToolTest, hazard_files, lines
+from support import REPORT_HEADER, ToolTest, gate_split_files, hazard_files, lines
 from pdfgen_tools.bench import circuit_of
 from pdfgen_tools.cli.page import main
 from pdfgen_tools.page.data import hexadecimal
@@ -63,7 +63,7 @@ class Page(ToolTest):
                 ("fault 4 names proof 4, which is none of it", "proofs", "4 refutes nonrobust fall 2 0 X\n", ""),
                 ("fault 1 names proof 1, which is none of it", "proofs", "1 refutes nonrobust rise 1", "1 refutes nonrobust fall 1"),
                 ("fault 3 names proof 3, which is none of it", "proofs", "rise 2 2", "rise 1 1"),
-                ("PROOFS line 1 malformed", "proofs", "proofs 1", "proofs 4"), ("PROOFS line 2 malformed", "proofs", "V0 X H0", "V1 X H0"),
+                ("PROOFS line 1 malformed", "proofs", "proofs 1", "proofs 6"), ("PROOFS line 2 malformed", "proofs", "V0 X H0", "V1 X H0"),
                 ("PROOFS line 2 malformed", "proofs", "X X\n2", "X X X\n2"), ("PROOFS line 3 malformed", "proofs", "2 refutes", "3 refutes"),
                 ("PROOFS line 5 malformed", "proofs", "fall 2 0", "fall 2 4097"), ("PROOFS line 6 malformed", "proofs", "0 X\n", "0 X\n\n"),
                 ("REPORT line 2 malformed", "report", "5,a", "5,b")):
@@ -73,12 +73,29 @@ class Page(ToolTest):
                 self.write(name, good[name].replace(old, new))
                 self.refuse(main, reason, *words)
 
+    def test_splits_at_lines_of_gates(self) -> None:
+        net, tests, report, proofs = gate_split_files(self)
+        self.call(main, net, tests, report, proofs, self.path("page"))
+        told = self.told()
+        self.assertEqual((told["version"], told["names"]), (5, ["a", "b", "c", "y", "g", "u", "v"]))
+        self.assertEqual([proof[4] for proof in told["proofs"]], ["F5 X V6 X H0 X X", "V4 X X"])
+
     def test_trees(self) -> None:
-        for tree, wanted in (("X", True), ("O", True), ("V2 X H0 O X", True), ("V3 X X", False), ("V0 X", False), ("X X", False), ("V0 X X X", False),
-                             ("", False), ("Q", False), ("V X X", False), ("V00 X X", False)):
-            self.assertEqual(is_tree(tree.split(" "), 3), wanted, tree)
-        circuit = circuit_of("INPUT(a)\nOUTPUT(a)\n")
-        self.assertEqual(proofs_of("pdfgen proofs 2\n", circuit).version, 2)
+        net = lines("INPUT(a)", "INPUT(b)", "q = DFF(y)", "y = AND(a, q)", "z = NOT(b)")
+        circuit = circuit_of(net)
+        every = (1, 2, 3, 4, 5)
+        versions_of: Dict[str, Sequence[int]] = {"X": every, "O": every, "V2 X H0 O X": every, "V3 X X": (4, 5), "H0 H4 X O X": (4, 5), "F0 X X": (5,),
+                                                 "V1 X F4 X X": (5,)}
+        no_trees = ("V5 X X", "F5 X X", "V0 X", "X X", "V0 X X X", "", "Q", "V X X", "F X X", "V00 X X", "V1000003 X X")
+        for tree in (*versions_of, *no_trees):
+            wanted = versions_of.get(tree, ())
+            for version in every:
+                self.assertEqual(is_tree(tree.split(" "), circuit, version), version in wanted, (tree, version))
+                if version in wanted:
+                    read = proofs_of(lines(f"pdfgen proofs {version}", f"1 refutes robust rise 1 0 {tree}"), circuit)
+                    self.assertEqual((read.version, read.proofs[0].tree), (version, tree))
+        for version in every:
+            self.assertEqual(proofs_of(f"pdfgen proofs {version}\n", circuit).version, version)
 
     def test_bits_as_hexadecimal_digits(self) -> None:
         chance = random.Random(1)

@@ -8,9 +8,10 @@ import sys
 from typing import Optional, Sequence
 
 sys.path.insert(0, str(pathlib.Path(__file__).resolve().parent.parent / "tests"))
-from support import EXAMPLES, REPORT_HEADER, ROOT, TOOLS, Main, ToolTest, called, hazard_files, lines
+from support import EXAMPLES, REPORT_HEADER, ROOT, TOOLS, Main, ToolTest, called, gate_split_files, hazard_files, lines
 
-__all__ = ["EXAMPLES", "PROGRAM", "REPORT_HEADER", "ROOT", "TOOLS", "Main", "ToolTest", "called", "hazard_files", "lines", "mapped", "printed"]
+__all__ = ["EXAMPLES", "PROGRAM", "REPORT_HEADER", "ROOT", "TOOLS", "Main", "ToolTest", "called", "gate_split_files", "hazard_files", "lines",
+           "mapped", "printed"]
 PROGRAM = os.environ.get("PDFGEN", str(ROOT / "bin" / "pdfgen"))
 
 

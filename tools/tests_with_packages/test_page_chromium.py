@@ -9,7 +9,7 @@ import subprocess
 import sys
 from typing import List
 
-from packages import ROOT, ToolTest, called, hazard_files, lines
+from packages import ROOT, ToolTest, called, gate_split_files, hazard_files, lines
 from pdfgen_tools.bench import circuit_of
 from pdfgen_tools.cli import from_yosys
 from pdfgen_tools.cli.page import main
@@ -85,6 +85,14 @@ class Page(ToolTest):
         self.assertIn("5 units, 1 steps", told)
         self.assertIn("The search for a robust test spent its budget of 1 splits", detail(self.page("#fault=3")))
         self.assertIn("each that begins with the source of path 2", detail(self.page("#fault=4")))
+
+    def test_splits_at_lines_of_gates(self) -> None:
+        self.call(main, *gate_split_files(self), self.path("page.html"))
+        told = detail(opened(self.folder / "page.html", "#fault=1"))
+        self.assertIn("the links of the mode being kept: 3 cases are split:", told)
+        self.assertIn("where u begins at 0: no pair is left\nwhere u begins at 1:\nwhere v ends at 0: no pair is left\nwhere v ends at 1:\n"
+                      "where a is steady: no pair is left\nwhere a is not steady: no pair is left\n", told)
+        self.assertIn("where g ends at 0: no pair is left\nwhere g ends at 1: no pair is left\n", detail(opened(self.folder / "page.html", "#fault=2")))
 
     def test_10000_paths(self) -> None:
         names = [self.write(name, text) for name, text in zip(("n", "t", "r", "p"), large_run(self.folder, 15000, 10000))]

@@ -100,16 +100,23 @@ def told_fault(fault: Fault) -> Tuple[int, int, int, int, int, int]:
             fault.nonrobust_proof or 0)
 
 
+def told_tree(tree: str, lines: Numbers) -> str:
+    """A tree with the numbers by which lines are told in those of its splits."""
+    return " ".join(node if node in ("X", "O") else f"{node[0]}{lines.number(int(node[1:]))}" for node in tree.split(" "))
+
+
 def data_of(run: Run, title: str) -> str:
-    """The JSON of a run. Lines that are told get numbers: sources their own, those of gates on paths and of their pins behind these."""
+    """The JSON of a run. Lines that are told get numbers: sources their own, those of gates on paths and of their pins behind these, and then
+    those of gates at which trees split."""
     circuit, gates = run.circuit, Numbers()
     paths = list(told_paths(run, gates))
     lines = Numbers()
     for source in range(circuit.source_count):
         lines.number(source)
     told_gates = [[circuit.gates[gate].kind, lines.number(circuit.source_count + gate), *map(lines.number, circuit.gates[gate].pins)] for gate in gates.of]
+    proofs = [[proof.word, proof.kind, proof.path, proof.steps, told_tree(proof.tree, lines)] for proof in run.proofs.proofs]
     told = {
         "title": title, "version": run.proofs.version, "sources": circuit.source_count, "names": [circuit.names[line] for line in lines.of],
         "gates": told_gates, "paths": paths, "faults": [told_fault(fault) for fault in run.faults], "values": list(values_of_tests(run)),
-        "vectors": vectors_of_tests(run), "proofs": [[proof.word, proof.kind, proof.path, proof.steps, proof.tree] for proof in run.proofs.proofs]}
+        "vectors": vectors_of_tests(run), "proofs": proofs}
     return json.dumps(told, separators=(",", ":"))
